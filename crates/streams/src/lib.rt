@@ -1,0 +1,12 @@
+//! Whole files and whole texts over devices that move them in pieces.
+//!
+//! A piece may be as short as one byte. What these calls promise does not depend on how the pieces fell.
+#![tactic(auto)]
+
+mod fetching;
+mod loads;
+mod writing;
+
+pub use fetching::fetch_all;
+pub use loads::{LoadFault, Loaded, PIECE};
+pub use writing::write_all;
