@@ -1,0 +1,12 @@
+//! The lines of a text, the words of a line, and whole numbers of few digits as words.
+//!
+//! Mesh texts and scripts are cut by the same rules, which stand here once.
+#![tactic(auto)]
+
+mod lines;
+mod numbers;
+mod words;
+
+pub use lines::{Lines, first_line, without_comment};
+pub use numbers::{number, signed_number};
+pub use words::{Words, first_word};
