@@ -1,2 +1,4 @@
 pub mod Loads
 pub mod Owed
+pub mod Answers
+pub mod Taken

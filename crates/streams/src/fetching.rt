@@ -5,14 +5,17 @@ ghost use Rattle.outside.specs.Causes.{Rose};
 ghost use Rattle.outside.specs.Files.{FileIs, IsAbsent};
 ghost use Rattle.streams.specs.Loads.{IsLoadedFile};
 
+use crate::{LoadFault, Loaded, PIECE};
+use outside::Shelf;
 use std::alloc::Global;
 
-use outside::Shelf;
-
-use crate::{LoadFault, Loaded, PIECE};
-
 /// All bytes of the named file, where these are at most `limit`. It asks for no byte past the first one too many.
-pub fn fetch_all<H: Shelf>(alloc: Global, shelf: &mut H, name: &str, limit: usize) -> Result<Loaded, LoadFault>
+pub fn fetch_all<H: Shelf>(
+    alloc: Global,
+    shelf: &mut H,
+    name: &str,
+    limit: usize,
+) -> Result<Loaded, LoadFault>
     requires { limit < 2 ^ 62 }
 
     ensures whole { IfOk result (λ loaded. FileIs (H.holds shelf.old) name.now (λ file. IsLoadedFile limit loaded file)) }

@@ -15,9 +15,9 @@ loop-count-preserved g c =
       few = grind (arith, common_steps);
       same = c.fetch.ensures.same ∙ c.loop-count.invariant.same;
       front =
-        front_next _ _ c.args.name.now c.loop-count.all.items _ (take count c.fetch.new.buf) c.len-at.result count c.loop-count.invariant.same
-        (grind (arith, common_steps))
-        (c.in-Ok-extend_from_slice.ensures.items ∙ ap (λ k. c.loop-count.all.items ++ k) (take-append-le count c.fetch.new.buf _ within))
-        c.loop-count.invariant.front c.in-Ok.ensures.bytes;
+          front_next _ _ c.args.name.now c.loop-count.all.items _ (take count c.fetch.new.buf) c.len-at.result count c.loop-count.invariant.same
+          (grind (arith, common_steps))
+          (c.in-Ok-extend_from_slice.ensures.items ∙ ap (λ k. c.loop-count.all.items ++ k) (take-append-le count c.fetch.new.buf _ within))
+          c.loop-count.invariant.front c.in-Ok.ensures.bytes;
       kept = c.in-Ok.ensures.cause.kept ∙ c.loop-count.invariant.kept;
     }
