@@ -1,0 +1,5 @@
+pub mod Cuts
+pub mod Spaces
+pub mod Tens
+pub mod Forms
+pub mod Readings

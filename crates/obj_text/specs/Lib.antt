@@ -1,0 +1,6 @@
+pub mod Lines
+pub mod Numbers
+pub mod Meshes
+pub mod Rows
+pub mod Texts
+pub mod Cuts

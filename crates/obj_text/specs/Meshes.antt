@@ -1,0 +1,25 @@
+-- What a contract sees of a mesh: the list of its points and the list of its faces.
+use Rattle.std.specs.Prelude.{ℕ, ◌<◌, ◌≤◌, List, length}
+use Rattle.std.specs.List.{All}
+use Rattle.fixed_box.specs.World.{InWorld}
+use Rattle.fixed_box.specs.declared.shapes.Point.{Point}
+use Rattle.obj_text.specs.declared.face.Face.{Face}
+use Rattle.obj_text.specs.declared.limits.TheConstants.{MOST_POINTS, MOST_FACES}
+
+-- the points and the faces, each in the order of the text
+pub record MeshLists : Type 0 where
+  pub points : List Point
+  pub faces : List Face
+
+-- each corner of the face is one of so many points
+pub record IsFaceOf (points : ℕ) (face : Face) : Type 0 where
+  pub a : face.a < points
+  pub b : face.b < points
+  pub c : face.c < points
+
+-- what holds of every mesh
+pub record IsMesh (mesh : MeshLists) : Type 0 where
+  pub in_world : All InWorld mesh.points
+  pub named : All (IsFaceOf (length mesh.points)) mesh.faces
+  pub few_points : length mesh.points ≤ MOST_POINTS
+  pub few_faces : length mesh.faces ≤ MOST_FACES

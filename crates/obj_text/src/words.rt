@@ -1,0 +1,74 @@
+//! The words of a line, one after another.
+
+ghost use Rattle.std.specs.Prelude.{◌≡◌, ◌<◌, ◌∷◌, [], length, MatchOption};
+ghost use Rattle.obj_text.specs.Lines.{words_of, is_blank};
+ghost use Rattle.obj_text.specs.Cuts.{IsUnbroken, IsCut};
+
+use std::marker::Model;
+
+/// The words of a line that are still to be read. Contracts see it as their list.
+#[derive(Drop)]
+pub struct Words<'a> {
+    rest: &'a [u8],
+}
+
+impl<'a> Model for Words<'a> {
+    ghost use Rattle.std.specs.Prelude.{List, ℕ};
+    ghost use Rattle.obj_text.specs.Lines.{words_of};
+
+    ghost Value = { List (List ℕ) };
+
+    ghost view = { λ a. words_of a.rest.now };
+}
+
+impl<'a> Words<'a> {
+    /// All words of the line.
+    pub fn new(line: &'a [u8]) -> Words<'a>
+        ensures { result ≡ words_of line.now }
+    {
+        Words { rest: line }
+    }
+
+    /// The next word.
+    pub fn next(&mut self) -> Option<&'a [u8]>
+        ensures { MatchOption result ((self.old ≡ []) × (self.new ≡ [])) (λ word. self.old ≡ word.now ∷ self.new) }
+    {
+        let (word, rest) = first_word(self.rest)?;
+        self.rest = rest;
+        Some(word)
+    }
+}
+
+/// The first word of a line, and what follows it.
+pub fn first_word(line: &[u8]) -> Option<(&[u8], &[u8])>
+    ensures { MatchOption result (words_of line.now ≡ []) (λ parts.
+        (words_of line.now ≡ parts.0.now ∷ words_of parts.1.now) × (length parts.1.now < length line.now)) }
+{
+    let mut rest = line;
+    while let [b, more @ ..] = rest {
+        if !is_blank(*b) {
+            return Some(cut_word(rest));
+        }
+        rest = more;
+    }
+    None
+}
+
+/// A line that begins with a word, cut behind that word.
+fn cut_word(line: &[u8]) -> (&[u8], &[u8])
+    requires { IsUnbroken line.now }
+    ensures { IsCut line.now result.0.now result.1.now }
+{
+    for (at, b) in line.iter().enumerate() {
+        if is_blank(*b) {
+            return (&line[..at], &line[at..]);
+        }
+    }
+    (line, &line[line.len()..])
+}
+
+fn is_blank(b: u8) -> bool
+    ensures { result ≡ is_blank b }
+{
+    matches!(b, 9 | 11 | 12 | 13 | 32)
+}
