@@ -3,3 +3,4 @@ pub mod Spaces
 pub mod Tens
 pub mod Forms
 pub mod Readings
+mod Examples

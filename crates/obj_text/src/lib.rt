@@ -22,3 +22,6 @@ pub use mesh::Mesh;
 pub use numbers::{grid_steps, number, signed_number};
 pub use read::read_mesh;
 pub use words::{Words, first_word};
+
+#[cfg(test)]
+mod tests;

@@ -8,7 +8,7 @@ ghost use Rattle.obj_text.specs.Texts.{mesh_of, vertices_of, IsRefusalOf};
 
 use crate::face::Face;
 use crate::fault::{MeshFault, Why};
-use crate::limits::MOST_BYTES;
+use crate::limits::{MOST_BYTES, MOST_POINTS};
 use crate::lines::Lines;
 use crate::mesh::Mesh;
 use crate::row::Row;
@@ -25,7 +25,9 @@ pub fn read_mesh(alloc: Global, bytes: &[u8], unit: u32) -> Result<Mesh, MeshFau
     ensures refusal { IfErr result (IsRefusalOf (mesh_of unit bytes.now)) }
 {
     let vertices = count_vertices(bytes);
-    let mut points = Vec::new(alloc);
+    let Ok(mut points) = Vec::with_capacity(alloc, MOST_POINTS.min(vertices as usize)) else {
+        return Err(MeshFault::Memory);
+    };
     let mut faces = Vec::new(alloc);
     let mut lines = Lines::new(bytes);
     let mut number = 0u32;
