@@ -2,7 +2,6 @@
 use Rattle.std.specs.Prelude.{ℤ, ◌≤ℤ◌, List, All}
 use Rattle.fixed_box.specs.declared.shapes.Point.{Point}
 use Rattle.fixed_box.specs.declared.shapes.Box3.{Box3}
-use Rattle.fixed_box.specs.declared.shapes.Tri.{Tri}
 
 -- x is from lo to hi, both included
 pub record IsBetween (lo x hi : ℤ) : Type 0 where

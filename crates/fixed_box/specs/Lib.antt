@@ -1,2 +1,5 @@
 pub mod World
 pub mod Boxes
+pub mod Extent
+pub mod Centre
+pub mod Corners

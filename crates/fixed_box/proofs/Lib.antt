@@ -1,0 +1,5 @@
+pub mod Order
+pub mod ByCorners
+pub mod LeastBoxes
+pub mod Extents
+pub mod InTheWorld
