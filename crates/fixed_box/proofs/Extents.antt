@@ -1,4 +1,4 @@
--- The boxes that `specs/Extent` gives by coordinates are the least boxes, and joining them is an operation like a maximum.
+-- The boxes that `specs/Extent` gives by coordinates are the least boxes, and they join in any order and grouping.
 use Rattle.std.proofs.Common.{◌≡◌, [], ◌∷◌, refl, sym, subst}
 use Rattle.fixed_box.specs.declared.shapes.Point.{Point}
 use Rattle.fixed_box.specs.declared.shapes.Box3.{Box3}

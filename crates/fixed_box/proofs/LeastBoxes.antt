@@ -1,4 +1,4 @@
--- The least box round points or boxes: it is one, its corners are the least and the greatest, and boxes join in any grouping.
+-- The least box round points or boxes: it is one, its corners are the least and the greatest, and boxes join by lists.
 use mathlib.Core.HLevel.{is_prop→PathP}
 use Rattle.std.proofs.Common.{◌≡◌, ◌≤ℤ◌, List, [], ◌∷◌, ◌++◌, All, subst, sym}
 use Rattle.std.proofs.Math.Dec.{T_prop}
@@ -57,10 +57,13 @@ least_of_three p q r l g b l1 l2 g1 g2 = record {
       let lo = lesser_first l r b.lo l2 in
       let hi = greater_first g r b.hi g2 in
       All-cons (Holds b) p (q ∷ r ∷ [])
-      (holds b p (at_most_trans b.lo l p lo (lesser_first p q l l1)) (at_most_trans p g b.hi (greater_first p q g g1) hi))
+      (holds b p (at_most_trans b.lo l p lo (lesser_first p q l l1))
+      (at_most_trans p g b.hi (greater_first p q g g1) hi))
       (All-cons (Holds b) q (r ∷ [])
-      (holds b q (at_most_trans b.lo l q lo (lesser_second p q l l1)) (at_most_trans q g b.hi (greater_second p q g g1) hi))
-      (All-cons (Holds b) r [] (holds b r (lesser_second l r b.lo l2) (greater_second g r b.hi g2)) (All-nil (Holds b))));
+      (holds b q (at_most_trans b.lo l q lo (lesser_second p q l l1))
+      (at_most_trans q g b.hi (greater_second p q g g1) hi))
+      (All-cons (Holds b) r []
+      (holds b r (lesser_second l r b.lo l2) (greater_second g r b.hi g2)) (All-nil (Holds b))));
   least = λ c h.
       let rest = All-tail (Holds c) p (q ∷ r ∷ []) h in
       let first = All-head (Holds c) p (q ∷ r ∷ []) h in
@@ -90,8 +93,14 @@ contains_second c a b h = All-head (Contains c) b [] (All-tail (Contains c) a (b
 pub least_of_two : (a b c : Box3) → IsLesser a.lo b.lo c.lo → IsGreater a.hi b.hi c.hi → IsLeastBox (a ∷ b ∷ []) c
 least_of_two a b c l g = record {
   contains = both c a b
-      ((contains_by_corners c a).1 (record { low = lesser_first a.lo b.lo c.lo l; high = greater_first a.hi b.hi c.hi g }))
-      ((contains_by_corners c b).1 (record { low = lesser_second a.lo b.lo c.lo l; high = greater_second a.hi b.hi c.hi g }));
+      ((contains_by_corners c a).1 (record {
+        low = lesser_first a.lo b.lo c.lo l;
+        high = greater_first a.hi b.hi c.hi g;
+      }))
+      ((contains_by_corners c b).1 (record {
+        low = lesser_second a.lo b.lo c.lo l;
+        high = greater_second a.hi b.hi c.hi g;
+      }));
   least = λ d h.
       let v = (contains_by_corners d a).0 (contains_first d a b h) in
       let w = (contains_by_corners d b).0 (contains_second d a b h) in

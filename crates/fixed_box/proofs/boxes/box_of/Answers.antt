@@ -22,7 +22,8 @@ returns-clause-least c =
     let m = c.least-lo.ensures in
     let g = c.greatest.ensures in
     let h = c.greatest-hi.ensures in
-    least_of_three_at t.a t.b t.c c.between.result c.least.result c.least-lo.result c.greatest.result c.greatest-hi.result
+    least_of_three_at t.a t.b t.c c.between.result
+    c.least.result c.least-lo.result c.greatest.result c.greatest-hi.result
     c.between.ensures.lo c.between.ensures.hi
     (lesser _ _ _ l.x l.y l.z) (lesser _ _ _ m.x m.y m.z) (greater _ _ _ g.x g.y g.z) (greater _ _ _ h.x h.y h.z)
 

@@ -9,6 +9,10 @@ returns-clause-middle c =
     let f : FitsSigned w32 c.div_euclid.result = search rules in
     let s : FitsSigned w32 (c.args.lo +ℤ c.args.hi) = search rules in
     let e : c.div_euclid.result ≡ int_div_euclid (c.args.lo +ℤ c.args.hi) (pos 2) =
-    rw (to_z-of_z w32 c.args.lo c.ranges.lo, to_z-of_z w32 c.args.hi c.ranges.hi, to_z-of_z w32 (c.args.lo +ℤ c.args.hi) s)
+    rw (
+      to_z-of_z w32 c.args.lo c.ranges.lo,
+      to_z-of_z w32 c.args.hi c.ranges.hi,
+      to_z-of_z w32 (c.args.lo +ℤ c.args.hi) s,
+    )
     at c.div_euclid.ensures in
     rw (to_z-of_z w32 c.div_euclid.result f) (middle_is c.args.lo c.args.hi c.div_euclid.result e)
