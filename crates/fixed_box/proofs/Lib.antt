@@ -3,3 +3,4 @@ pub mod ByCorners
 pub mod LeastBoxes
 pub mod Extents
 pub mod InTheWorld
+pub mod MeetingTest

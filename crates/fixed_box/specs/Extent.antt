@@ -1,5 +1,5 @@
 -- Boxes by their coordinates: on each axis the least and the greatest coordinate of what a box goes round.
-use Rattle.std.specs.Prelude.{ℤ, ◌≤ℤ◌}
+use Rattle.std.specs.Prelude.{ℤ, ◌≤ℤ◌, Bool, ◌&&◌, int_le}
 use Rattle.std.specs.Int.{int_min, int_max}
 use Rattle.std.specs.Int.Signed.{≤ℤ_refl}
 use Rattle.std.proofs.Common.{arith}
@@ -33,3 +33,11 @@ corner_box p q = union_of (point_box p) (point_box q)
 -- the box of a triangle's three corners
 unfoldable pub tri_box : Tri → Box3
 tri_box t = union_of (corner_box t.a t.b) (point_box t.c)
+
+-- on one axis, each of two extents begins before the other ends
+unfoldable pub crosses : ℤ → ℤ → ℤ → ℤ → Bool
+crosses lo hi other_lo other_hi = int_le lo other_hi && int_le other_lo hi
+
+-- whether the boxes meet
+unfoldable pub boxes_meet : Box3 → Box3 → Bool
+boxes_meet a b = crosses a.lo.x a.hi.x b.lo.x b.hi.x && crosses a.lo.y a.hi.y b.lo.y b.hi.y && crosses a.lo.z a.hi.z b.lo.z b.hi.z

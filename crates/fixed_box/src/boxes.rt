@@ -3,7 +3,7 @@
 
 ghost use Rattle.std.specs.Prelude.{◌≡◌, ◌↔◌, IsTrue, [], ◌∷◌};
 ghost use Rattle.fixed_box.specs.Boxes.{Meets, Contains, IsLeastHolding, IsLeastBox};
-ghost use Rattle.fixed_box.specs.Extent.{corner_box, tri_box, union_of};
+ghost use Rattle.fixed_box.specs.Extent.{boxes_meet, corner_box, tri_box, union_of};
 ghost use Rattle.fixed_box.specs.Corners.{IsAtMost};
 
 use crate::corners::{at_most, greatest, least};
@@ -48,7 +48,8 @@ pub fn union(a: &Box3, b: &Box3) -> Box3
 
 /// Whether some point is in both boxes. Faces count: boxes that only touch meet.
 pub fn meets(a: &Box3, b: &Box3) -> bool
-    ensures { IsTrue result ↔ Meets a.now b.now }
+    ensures point { IsTrue result ↔ Meets a.now b.now }
+    ensures value { result ≡ boxes_meet a.now b.now }
 {
     at_most(&a.lo, &b.hi) && at_most(&b.lo, &a.hi)
 }

@@ -10,7 +10,7 @@ use Rattle.std.proofs.lemmas.Bool.Decides.{nat_tests}
 use Rattle.fixed_box.specs.World.{IsCoordinate, InWorld}
 use Rattle.fixed_box.specs.declared.shapes.Point.{Point}
 use Rattle.fixed_box.specs.declared.shapes.TheConstants.{HALF}
-use Rattle.obj_text.specs.Numbers.{number_of, signed_of}
+use Rattle.text_words.specs.Numbers.{number_of, signed_of}
 use Rattle.obj_text.specs.Meshes.{IsFaceOf}
 use Rattle.obj_text.specs.Rows.{onward, in_world, coordinate_of, position_of, three_of, point_of, face_of, vertex_of, triangle_of, row_of, is_vertex, points_of, faces_of}
 use Rattle.obj_text.specs.declared.face.Face.{Face}

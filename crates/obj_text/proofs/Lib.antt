@@ -1,6 +1,3 @@
-pub mod Cuts
-pub mod Spaces
-pub mod Tens
 pub mod Forms
 pub mod Readings
 mod Examples

@@ -6,7 +6,7 @@ use Rattle.std.proofs.lemmas.List.Elements.{All-append, All-nil}
 use Rattle.std.proofs.lemmas.List.Sums.{sum_by-cons}
 use Rattle.fixed_box.specs.World.{InWorld}
 use Rattle.fixed_box.specs.declared.shapes.Point.{Point}
-use Rattle.obj_text.specs.Lines.{lines_of}
+use Rattle.text_words.specs.Lines.{lines_of}
 use Rattle.obj_text.specs.Meshes.{MeshLists, IsMesh, IsFaceOf}
 use Rattle.obj_text.specs.Rows.{row_of, is_vertex, points_of, faces_of, has_room}
 use Rattle.obj_text.proofs.Forms.{IsRowOf, row_is}

@@ -3,7 +3,7 @@ use Rattle.std.specs.Prelude.{ℕ, ◌-◌, Bool, true, false, List, [], ◌∷�
 use Rattle.std.specs.Str.{bytes_eq}
 use Rattle.fixed_box.specs.declared.shapes.Point.{Point}
 use Rattle.fixed_box.specs.declared.shapes.TheConstants.{HALF}
-use Rattle.obj_text.specs.Numbers.{number_of, signed_of}
+use Rattle.text_words.specs.Numbers.{number_of, signed_of}
 use Rattle.obj_text.specs.declared.face.Face.{Face}
 use Rattle.obj_text.specs.declared.row.Row.{Row}
 use Rattle.obj_text.specs.declared.row.Row.TheVariants.{Nothing, Vertex, Triangle}

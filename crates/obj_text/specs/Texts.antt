@@ -2,7 +2,7 @@
 use Rattle.std.specs.Prelude.{◌≡◌, ℕ, ◌+◌, ⊤, List, [], ◌∷◌, ◌++◌, map, length, if◌then◌else◌, Ok, Err, Result, Option, None, Some}
 use Rattle.std.specs.List.{count_by}
 use Rattle.fixed_box.specs.declared.shapes.Point.{Point}
-use Rattle.obj_text.specs.Lines.{lines_of, words_of, without_comment}
+use Rattle.text_words.specs.Lines.{lines_of, words_of, without_comment}
 use Rattle.obj_text.specs.Meshes.{MeshLists}
 use Rattle.obj_text.specs.Rows.{row_of, is_vertex, points_of, faces_of, has_room}
 use Rattle.obj_text.specs.declared.face.Face.{Face}

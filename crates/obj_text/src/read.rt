@@ -2,19 +2,19 @@
 //! the second reads line after line and stops at the first that cannot be read.
 
 ghost use Rattle.std.specs.Prelude.{◌≡◌, ◌≤◌, ◌++◌, length, IfOk, IfErr, OnOk};
-ghost use Rattle.obj_text.specs.Lines.{lines_of};
+ghost use Rattle.text_words.specs.Lines.{lines_of};
 ghost use Rattle.obj_text.specs.Rows.{points_of, faces_of};
 ghost use Rattle.obj_text.specs.Texts.{mesh_of, vertices_of, IsRefusalOf};
 
 use crate::face::Face;
 use crate::fault::{MeshFault, Why};
 use crate::limits::{MOST_BYTES, MOST_POINTS};
-use crate::lines::Lines;
 use crate::mesh::Mesh;
 use crate::row::Row;
 use crate::rows::{has_room, is_vertex, read_row};
 use fixed_box::{Point, UNIT_MAX};
 use std::alloc::{AllocError, Global};
+use text_words::Lines;
 
 /// Reads a mesh text, with `unit` grid steps to each unit of its coordinates.
 pub fn read_mesh(alloc: Global, bytes: &[u8], unit: u32) -> Result<Mesh, MeshFault>

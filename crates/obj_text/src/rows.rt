@@ -3,18 +3,16 @@
 
 ghost use Rattle.std.specs.Prelude.{◌≡◌, ◌≤◌, ◌∷◌, [], IfSome, MatchOption};
 ghost use Rattle.fixed_box.specs.World.{IsCoordinate, InWorld};
-ghost use Rattle.obj_text.specs.Lines.{words_of, without_comment};
+ghost use Rattle.text_words.specs.Lines.{words_of, without_comment};
 ghost use Rattle.obj_text.specs.Meshes.{IsFaceOf};
 ghost use Rattle.obj_text.specs.Rows.{in_world, coordinate_of, position_of, three_of, point_of, face_of, row_of, vertex_of, triangle_of, is_vertex, has_room};
 ghost use Rattle.obj_text.specs.Texts.{row_words};
 
 use crate::face::Face;
 use crate::limits::{COORDINATE_DIGITS, MOST_FACES, MOST_POINTS, REFERENCE_DIGITS};
-use crate::lines::without_comment;
-use crate::numbers::{grid_steps, number, signed_number};
 use crate::row::Row;
-use crate::words::Words;
 use fixed_box::{HALF, Point, UNIT_MAX};
+use text_words::{Words, grid_steps, number, signed_number, without_comment};
 
 /// Reads a line, of a text with so many vertices.
 pub fn read_row(line: &[u8], unit: u32, vertices: u32) -> Option<Row>

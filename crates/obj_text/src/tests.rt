@@ -37,13 +37,42 @@ const TRIANGLE: &[u8] = b"v 0 0 0\nv 4 0 0\nv 0 4 0\nf 1 2 3\n";
 #[test]
 fn a_text_gives_its_points_in_grid_steps_and_its_faces(rt: HostRuntime) {
     let at_one = read_text(&rt, rt.alloc(), TRIANGLE, 1);
-    is_mesh(&rt, at_one, &[(0, 0, 0), (4, 0, 0), (0, 4, 0)], &[(0, 1, 2)], "one step to the unit");
+    is_mesh(
+        &rt,
+        at_one,
+        &[(0, 0, 0), (4, 0, 0), (0, 4, 0)],
+        &[(0, 1, 2)],
+        "one step to the unit",
+    );
     let at_sixty_four = read_text(&rt, rt.alloc(), TRIANGLE, 64);
-    is_mesh(&rt, at_sixty_four, &[(0, 0, 0), (256, 0, 0), (0, 256, 0)], &[(0, 1, 2)], "64 steps to the unit");
+    is_mesh(
+        &rt,
+        at_sixty_four,
+        &[(0, 0, 0), (256, 0, 0), (0, 256, 0)],
+        &[(0, 1, 2)],
+        "64 steps to the unit",
+    );
     let face_first = read_text(&rt, rt.alloc(), b"f 1 2 3\nv 0 0 0\nv 4 0 0\nv 0 4 0", 1);
-    is_mesh(&rt, face_first, &[(0, 0, 0), (4, 0, 0), (0, 4, 0)], &[(0, 1, 2)], "the face before its vertices");
-    let spaced = read_text(&rt, rt.alloc(), b"# level\r\n\r\n\tv\x0b-007\x0c000000 \t 131071#\r\nv 1 2 -131072 # f 9\nf 2 0000001 1\r", 1);
-    is_mesh(&rt, spaced, &[(-7, 0, 131071), (1, 2, -131072)], &[(1, 0, 0)], "comments, blanks and leading zeros");
+    is_mesh(
+        &rt,
+        face_first,
+        &[(0, 0, 0), (4, 0, 0), (0, 4, 0)],
+        &[(0, 1, 2)],
+        "the face before its vertices",
+    );
+    let spaced = read_text(
+        &rt,
+        rt.alloc(),
+        b"# level\r\n\r\n\tv\x0b-007\x0c000000 \t 131071#\r\nv 1 2 -131072 # f 9\nf 2 0000001 1\r",
+        1,
+    );
+    is_mesh(
+        &rt,
+        spaced,
+        &[(-7, 0, 131071), (1, 2, -131072)],
+        &[(1, 0, 0)],
+        "comments, blanks and leading zeros",
+    );
     let empty = read_text(&rt, rt.alloc(), b"", 65536);
     is_mesh(&rt, empty, &[], &[], "the empty text");
 }
@@ -81,7 +110,14 @@ fn the_first_line_that_cannot_be_read_is_named(rt: HostRuntime) {
     ];
     for (at, (text, unit, line)) in cases.iter().enumerate() {
         let fault = read_text(&rt, rt.alloc(), text, *unit).err();
-        assert_eq!(rt; fault, Some(MeshFault::Line { line: *line, why: Why::FormNotRead }), "case {at}");
+        assert_eq!(rt;
+            fault,
+            Some(MeshFault::Line {
+                line: *line,
+                why: Why::FormNotRead
+            }),
+            "case {at}"
+        );
     }
 }
 
@@ -101,13 +137,25 @@ fn the_line_past_a_limit_is_named(rt: HostRuntime) -> Result<(), Fail> {
     assert_eq!(rt; mesh.points().len(), MOST_POINTS);
     let past = repeated(rt.alloc(), b"", b"v 0 0 0\n", 1_048_577)?;
     let fault = read_text(&rt, rt.alloc(), &past, 1).err();
-    assert_eq!(rt; fault, Some(MeshFault::Line { line: 1_048_577, why: Why::FormNotRead }));
+    assert_eq!(rt;
+        fault,
+        Some(MeshFault::Line {
+            line: 1_048_577,
+            why: Why::FormNotRead
+        })
+    );
     let full = repeated(rt.alloc(), b"v 0 0 0\n", b"f 1 1 1\n", 1_048_576)?;
     let mesh = read_text(&rt, rt.alloc(), &full, 1)?;
     assert_eq!(rt; mesh.faces().len(), MOST_FACES);
     let past = repeated(rt.alloc(), b"v 0 0 0\n", b"f 1 1 1\n", 1_048_577)?;
     let fault = read_text(&rt, rt.alloc(), &past, 1).err();
-    assert_eq!(rt; fault, Some(MeshFault::Line { line: 1_048_578, why: Why::FormNotRead }));
+    assert_eq!(rt;
+        fault,
+        Some(MeshFault::Line {
+            line: 1_048_578,
+            why: Why::FormNotRead
+        })
+    );
     Ok(())
 }
 
@@ -122,38 +170,18 @@ fn a_mesh_is_taken_apart(rt: HostRuntime) -> Result<(), Fail> {
 }
 
 #[test]
-fn lines_and_words_are_cut(rt: HostRuntime) -> Result<(), Fail> {
-    let mut lines = Lines::new(b"one\n\n two # three\n");
-    assert_eq!(rt; lines.next(), Some(b"one".as_slice()));
-    assert_eq!(rt; lines.next(), Some(b"".as_slice()));
-    let last = lines.next().ok_or("three lines")?;
-    assert_eq!(rt; lines.next(), None);
-    let mut words = Words::new(without_comment(last));
-    assert_eq!(rt; words.next(), Some(b"two".as_slice()));
-    assert_eq!(rt; words.next(), None);
-    assert_eq!(rt; first_line(b"one\n two"), Some((b"one".as_slice(), b" two".as_slice())));
-    assert_eq!(rt; first_line(b"one"), None);
-    assert_eq!(rt; first_word(b"\tone two"), Some((b"one".as_slice(), b" two".as_slice())));
-    assert_eq!(rt; first_word(b" \r"), None);
-    Ok(())
-}
-
-#[test]
-fn whole_numbers_are_read(rt: HostRuntime) {
-    assert_eq!(rt; number(b"0042", 4), Some(42));
-    assert_eq!(rt; number(b"0042", 3), None);
-    assert_eq!(rt; number(b"", 3), None);
-    assert_eq!(rt; number(b"4a", 3), None);
-    assert_eq!(rt; signed_number(b"-999999999", 9), Some(-999_999_999));
-    assert_eq!(rt; signed_number(b"-0", 1), Some(0));
-    assert_eq!(rt; signed_number(b"-", 9), None);
-    assert_eq!(rt; grid_steps(-3, 65536), -196_608);
-}
-
-#[test]
 fn faults_print_their_line(rt: HostRuntime) -> Result<(), Fail> {
-    let fault = MeshFault::Line { line: 5, why: Why::FormNotRead };
-    assert_eq!(rt; format!(in rt.alloc(); "{fault}")?.as_str(), "mesh line 5: form not read");
-    assert_eq!(rt; format!(in rt.alloc(); "{}", MeshFault::Memory)?.as_str(), "out of memory");
+    let fault = MeshFault::Line {
+        line: 5,
+        why: Why::FormNotRead,
+    };
+    assert_eq!(rt;
+        format!(in rt.alloc(); "{fault}")?.as_str(),
+        "mesh line 5: form not read"
+    );
+    assert_eq!(rt;
+        format!(in rt.alloc(); "{}", MeshFault::Memory)?.as_str(),
+        "out of memory"
+    );
     Ok(())
 }

@@ -8,5 +8,8 @@ mod numbers;
 mod words;
 
 pub use lines::{Lines, first_line, without_comment};
-pub use numbers::{number, signed_number};
+pub use numbers::{grid_steps, number, signed_number};
 pub use words::{Words, first_word};
+
+#[cfg(test)]
+mod tests;

@@ -25,9 +25,7 @@ impl<'a> Lines<'a> {
     pub fn new(text: &'a [u8]) -> Lines<'a>
         ensures { result ≡ lines_of text.now }
     {
-        Lines {
-            rest: text,
-        }
+        Lines { rest: text }
     }
 
     /// The next line, without its line feed.

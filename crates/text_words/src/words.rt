@@ -26,9 +26,7 @@ impl<'a> Words<'a> {
     pub fn new(line: &'a [u8]) -> Words<'a>
         ensures { result ≡ words_of line.now }
     {
-        Words {
-            rest: line,
-        }
+        Words { rest: line }
     }
 
     /// The next word.

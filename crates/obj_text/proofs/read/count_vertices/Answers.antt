@@ -1,5 +1,5 @@
 use Rattle.std.proofs.Common.{arith}
-use Rattle.obj_text.proofs.Cuts.{length-lines_of}
+use Rattle.text_words.proofs.Cuts.{length-lines_of}
 use Rattle.obj_text.proofs.read.count_vertices.Goals as goal
 
 pub overflow_add-count : goal.overflow_add-count

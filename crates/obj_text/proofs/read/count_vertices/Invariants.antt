@@ -1,5 +1,5 @@
 use Rattle.std.proofs.Common.{◌≡◌, ◌≤◌, length, ◌+◌}
-use Rattle.obj_text.specs.Lines.{lines_of}
+use Rattle.text_words.specs.Lines.{lines_of}
 use Rattle.obj_text.specs.Texts.{vertices_of}
 use Rattle.obj_text.proofs.read.count_vertices.Given as goal
 

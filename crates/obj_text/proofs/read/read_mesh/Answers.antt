@@ -1,5 +1,5 @@
 use Rattle.std.proofs.Common.{rules, arith, subst, ◌≡◌, ◌∷◌, ◌++◌}
-use Rattle.obj_text.proofs.Cuts.{length-lines_of}
+use Rattle.text_words.proofs.Cuts.{length-lines_of}
 use Rattle.obj_text.proofs.Readings.{IsReadUpTo, IsNextRow, row_read}
 use Rattle.obj_text.specs.Rows.{points_of, faces_of}
 use Rattle.obj_text.proofs.read.read_mesh.Goals as goal
@@ -13,7 +13,7 @@ loop-line-preserved c =
     let next : c.loop-line.lines ≡ c.in-Some.line.now ∷ c.next.new.self = search rules in
     let r = subst (λ k. IsReadUpTo c.args.unit c.args.bytes.now k c.loop-line.number c.loop-line.points.items c.loop-line.faces.items) next c.loop-line.invariant in
     let n : IsNextRow c.args.unit c.args.bytes.now c.in-Some.line.now c.loop-line.points.items c.loop-line.faces.items row =
-      record { read = search rules; room = search rules } in
+    record { read = search rules; room = search rules } in
     let points : c.add.new.points.items ≡ c.loop-line.points.items ++ points_of row = search rules in
     let faces : c.add.new.faces.items ≡ c.loop-line.faces.items ++ faces_of row = search rules in
     rw (points, faces) (row_read _ _ _ _ _ _ _ row r n)
