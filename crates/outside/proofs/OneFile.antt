@@ -1,5 +1,5 @@
 -- A shelf of one file: what it holds at a name, and what a fetch from a place gives.
-use Rattle.std.proofs.Common.{◌≡◌, ◌≢◌, ◌≤◌, min, Option, Some, None, Bool, true, false, cond, ◌++◌, inl, inr, drop, take, ℕ, length, List, refl, sym, ap, subst, ◌∙◌, arith, nat_cmp}
+use Rattle.std.proofs.Common.{◌≡◌, ◌≢◌, ◌≤◌, min, Some, None, Bool, true, false, cond, ◌++◌, inl, inr, drop, take, ℕ, length, List, refl, sym, ap, subst, ◌∙◌, arith, nat_cmp}
 use Rattle.std.proofs.lemmas.List.{length-drop}
 use Rattle.std.proofs.lemmas.Map.Text.{is_eq-slice_cmp}
 use Rattle.std.proofs.lemmas.Slice.Eq.{bytes_eq-Decides}
@@ -55,4 +55,5 @@ copy_is_fetched shelf q front back at start n same from is fits none =
     subst (λ held. FetchGives held at n (take n (front ++ back))) (sym (name_is_held shelf q same)) record {
       bytes = take-piece n (drop start file) front back fits is ∙ ap (take n) (drop-min file at start from);
       end = λ zero. omega (arith, none zero, length-drop start file);
+      past = λ high. omega (arith, high, fits, from, length-drop start file);
     }

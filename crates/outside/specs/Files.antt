@@ -19,10 +19,11 @@ abbrev pub IsAbsent : Option Files → List ℕ → Type 0
 IsAbsent None name = ⊥
 IsAbsent (Some files) name = get files name ≡ None
 
--- the n bytes of the piece are those of the file from a place on, and none only at its end or past it
+-- the n bytes of the piece are those of the file from a place on, and none exactly at its end or past it
 pub record IsPieceOf (file : List ℕ) (at n : ℕ) (piece : List ℕ) : Type 0 where
   pub bytes : piece ≡ take n (drop at file)
   pub end : n ≡ 0 → length file ≤ at
+  pub past : length file ≤ at → n ≡ 0
 
 -- a fetch gave a piece of the file, and never anything of a file that is not held
 abbrev pub FetchGives : Option (List ℕ) → ℕ → ℕ → List ℕ → Type 0

@@ -1,7 +1,7 @@
 //! The four traits through which a run meets its surroundings. What a device holds is a ghost member, told or not told,
 //! and `faults` is the count that a failure must raise.
 
-ghost use Rattle.std.specs.Prelude.{◌≡◌, ℕ, List, Option, ◌<◌, ◌≤◌, length, take, IfOk};
+ghost use Rattle.std.specs.Prelude.{◌≡◌, ℕ, List, Option, ◌<◌, ◌≤◌, length, take, IfOk, OnErr};
 ghost use Rattle.std.specs.Io.{ReadsAtMost};
 ghost use Rattle.std.specs.Io.KnownBytes.{ReadConsumes, WriteAppends};
 ghost use Rattle.outside.specs.Causes.{HasCause};
@@ -14,7 +14,7 @@ use crate::Failed;
 pub trait Source {
     // The bytes still to come, where the source tells them.
     ghost left: { Self → Option (List ℕ) };
-    // How many calls have failed. It never falls.
+    // A count of failed calls. It never falls, and rises at each.
     ghost faults: { Self → ℕ };
 
     /// Moves the next bytes into the front of `buf`, and answers how many: at most its length, and 0 exactly where none
@@ -25,6 +25,7 @@ pub trait Source {
         ensures bound { ReadsAtMost result buf.new }
         ensures bytes { ReadConsumes (left self.old) (left self.new) result buf.new }
         ensures end { IfOk result (λ n. IsSpent (left self.old) → n ≡ 0) }
+        ensures kept { OnErr result (left self.new ≡ left self.old) }
 
         ensures cause { HasCause (faults self.old) (faults self.new) result };
 }
@@ -33,7 +34,7 @@ pub trait Source {
 pub trait Sink {
     // The bytes taken so far, where the sink tells them.
     ghost written: { Self → Option (List ℕ) };
-    // How many calls have failed. It never falls.
+    // A count of failed calls. It never falls, and rises at each.
     ghost faults: { Self → ℕ };
 
     /// Takes a front of `piece`, and answers its length: at least 1, at most all. A failure takes nothing, and a device
@@ -44,6 +45,7 @@ pub trait Sink {
         ensures some { IfOk result (λ n. 0 < n) }
         ensures bound { IfOk result (λ n. n ≤ length piece.now) }
         ensures bytes { WriteAppends (written self.old) (written self.new) result piece.now }
+        ensures kept { OnErr result (written self.new ≡ written self.old) }
 
         ensures cause { HasCause (faults self.old) (faults self.new) result };
 }
@@ -52,7 +54,7 @@ pub trait Sink {
 pub trait Shelf {
     // The files, where the shelf tells them.
     ghost holds: { Self → Option Files };
-    // How many calls have failed, but for a name that is not held. It never falls.
+    // A count of failed calls, but for those where the shelf tells that the name is not held. It never falls.
     ghost faults: { Self → ℕ };
 
     /// Copies bytes of the named file from place `at` on into the front of `buf`, and answers how many: at most its

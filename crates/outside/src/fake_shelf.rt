@@ -1,6 +1,6 @@
 //! A shelf in memory that holds one file.
 
-ghost use Rattle.std.specs.Prelude.{◌≡◌, ◌↔◌, ◌-◌, ◌<◌, ◌≢◌, ◌⊎◌, Some, length, min, take, IfOk, OnOk, OnErr, IsErr};
+ghost use Rattle.std.specs.Prelude.{◌≡◌, ◌↔◌, ◌-◌, ◌<◌, ◌≢◌, ◌⊎◌, Some, [], length, min, take, IfOk, OnOk, OnErr, IsErr};
 ghost use Rattle.std.specs.Io.{ReadsAtMost};
 ghost use Rattle.outside.specs.Files.{FileIs, FetchGives, FetchHasCause};
 ghost use Rattle.outside.specs.Fakes.{count_on, files_of, IsToFail};
@@ -64,6 +64,7 @@ impl Shelf for MemShelf {
         ensures cause { FetchHasCause (Some (files_of self.old)) name.now self.old.faults self.new.faults result }
 
         // It fails exactly where the name is another or it was told to, and else gives all that it can.
+        ensures quiet { self.old.fail ≡ [] → self.new.faults ≡ self.old.faults }
         ensures fails { IsErr result ↔ ((name.now ≢ self.old.name) ⊎ IsToFail self.old.fail self.old.calls) }
         ensures count { IfOk result (λ n. n ≡ min self.old.piece (min (length buf.old) (length self.old.bytes - at))) }
         ensures ok { OnOk result (self.new ≡ record self.old { calls = count_on self.old.calls }) }

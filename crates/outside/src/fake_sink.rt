@@ -72,10 +72,12 @@ impl Sink for MemSink {
         ensures some { IfOk result (λ n. 0 < n) }
         ensures bound { IfOk result (λ n. n ≤ length piece.now) }
         ensures bytes { WriteAppends (Some self.old.written) (Some self.new.written) result piece.now }
+        ensures kept { OnErr result (Some self.new.written ≡ Some self.old.written) }
         ensures cause { HasCause self.old.faults self.new.faults result }
 
         // It fails exactly where it is full or was told to, and else takes all that it can.
         ensures fails { IsErr result ↔ Refuses self.old }
+        ensures quiet { self.old.fail ≡ [] → length self.old.written < self.old.room → self.new.faults ≡ self.old.faults }
         ensures count { IfOk result (λ n. n ≡ min self.old.piece (min (length piece.now) (self.old.room - length self.old.written))) }
         ensures ok { IfOk result (λ n. self.new ≡ record self.old { written = self.old.written ++ take n piece.now; calls = count_on self.old.calls }) }
         ensures err { OnErr result (self.new ≡ record self.old { calls = count_on self.old.calls; faults = count_on self.old.faults }) }

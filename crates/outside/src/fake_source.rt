@@ -1,6 +1,6 @@
 //! A source in memory. It tells what it has left, and fails at the calls that it was told to fail at.
 
-ghost use Rattle.std.specs.Prelude.{◌≡◌, ◌↔◌, ◌<◌, Some, length, min, drop, IfOk, OnErr, IsErr};
+ghost use Rattle.std.specs.Prelude.{◌≡◌, ◌↔◌, ◌<◌, Some, [], length, min, drop, IfOk, OnErr, IsErr};
 ghost use Rattle.std.specs.Io.{ReadsAtMost};
 ghost use Rattle.std.specs.Io.KnownBytes.{ReadConsumes};
 ghost use Rattle.outside.specs.Causes.{HasCause};
@@ -62,10 +62,12 @@ impl Source for MemSource {
         ensures bound { ReadsAtMost result buf.new }
         ensures bytes { ReadConsumes (Some self.old.left) (Some self.new.left) result buf.new }
         ensures end { IfOk result (λ n. IsSpent (Some self.old.left) → n ≡ 0) }
+        ensures kept { OnErr result (Some self.new.left ≡ Some self.old.left) }
         ensures cause { HasCause self.old.faults self.new.faults result }
 
         // It fails exactly where it was told to, and else gives all that it can.
         ensures fails { IsErr result ↔ IsToFail self.old.fail self.old.calls }
+        ensures quiet { self.old.fail ≡ [] → self.new.faults ≡ self.old.faults }
         ensures count { IfOk result (λ n. n ≡ min self.old.piece (min (length buf.old) (length self.old.left))) }
         ensures ok { IfOk result (λ n. self.new ≡ record self.old { left = drop n self.old.left; calls = count_on self.old.calls }) }
         ensures err { OnErr result (self.new ≡ record self.old { calls = count_on self.old.calls; faults = count_on self.old.faults }) }

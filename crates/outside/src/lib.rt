@@ -20,3 +20,6 @@ pub use fake_shelf::MemShelf;
 pub use fake_sink::MemSink;
 pub use fake_source::MemSource;
 pub use names::Name;
+
+#[cfg(test)]
+mod tests;

@@ -1,4 +1,4 @@
-use Rattle.std.proofs.Common.{◌≡◌, ◌≢◌, inl, inr, refl, arith, rules}
+use Rattle.std.proofs.Common.{◌≡◌, ◌≢◌, inl, inr, arith, rules}
 use Rattle.std.proofs.lemmas.Grind.{common_steps}
 use Rattle.outside.proofs.OneFile.{other_is_absent, held_is_not_absent, copy_is_fetched}
 use Rattle.outside.proofs.fake_shelf.MemShelfShelf.fetch.Goals as goal
