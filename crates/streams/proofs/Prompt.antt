@@ -1,15 +1,16 @@
 -- A session that stops at a failed write has taken less than a piece behind the first line feed before which not all was written.
-use Rattle.std.proofs.Common.{◌≡◌, ◌≤◌, ◌<◌, ◌+◌, ◌-◌, ◌==◌, ◌⊎◌, inl, inr, ℕ, Bool, true, false, cond, List, [], ◌∷◌, ◌++◌, Option, None, Some, take, drop, length, refl, sym, ap, ◌∙◌, subst, append_assoc, append-nil, length-append, arith, take-append-drop}
+use Rattle.std.proofs.Common.{◌≡◌, ◌≤◌, ◌<◌, ◌+◌, ◌-◌, ◌==◌, ◌⊎◌, inl, inr, ℕ, Bool, true, false, cond, List, [], ◌∷◌, ◌++◌, Option, None, Some, IfSome, take, drop, length, refl, sym, ap, ◌∙◌, subst, append_assoc, append-nil, length-append, arith, take-append-drop}
 use Rattle.std.specs.Io.KnownBytes.{Appends, Consumes}
 use Rattle.std.proofs.Math.Seq.{take-append_seam}
-use Rattle.std.proofs.lemmas.List.{take-append-le}
+use Rattle.std.proofs.lemmas.List.{length-take-le, length-drop}
 use Rattle.std.proofs.lemmas.Bool.{cases_lt}
 use Rattle.text_words.specs.Lines.{onto_line, cut_lines, IsOneLine}
 use Rattle.streams.specs.Owed.{AppendsFront}
-use Rattle.streams.specs.Answers.{answers_from, text_left}
-use Rattle.streams.specs.Taken.{IsPrompt}
+use Rattle.streams.specs.Answers.{answers_from, lines_within, text_left}
+use Rattle.streams.specs.Taken.{IsPrompt, Loses}
 use Rattle.streams.specs.declared.loads.TheConstants.{PIECE}
 use Rattle.streams.proofs.Gifts.{Gave}
+use Rattle.streams.proofs.Within.{within_cut}
 use Rattle.streams.proofs.SoFar.{HasAnswered, all_ended}
 
 -- a byte before lines of which there is one
@@ -97,4 +98,28 @@ prompt text after start (Some bytes) (Some left) (Some rest) (Some o) mid now st
               subst (λ x. length (text_left text after start 1 false (front ++ 10 ∷ [])) ≤ length (text_left text after start 1 false x)) (sym p.1) (answers_by text after start 1 front p.0) in
               absurd (omega (arith, written_length o m w (text_left text after start 1 false gave.0) more done said))
           | inr past ↦ omega (arith, ap length gave.1, length-append gave.0 left, ap length eats, length-append piece rest)
+        ]
+
+-- and where more came than the limit and the write of word of it fails, no more was taken than the limit and a byte
+pub prompt_cut : {A : Type 0} (text : A → ℕ → List ℕ → List ℕ) (after : A → List ℕ → A) (start : A) (left right old mid now : Option (List ℕ)) (limit : ℕ) (more : List ℕ)
+    → Loses (limit + 1) left right → IfSome left (λ bytes. limit < length bytes) → IfSome left (λ bytes. Appends old mid (answers_from text after start 1 (lines_within limit bytes)))
+    → AppendsFront mid now more → IsPrompt (text_left text after start 1 false) left right old now
+prompt_cut text after start None right old mid now limit more lost long done said = tt
+prompt_cut text after start (Some bytes) None old mid now limit more lost long done said = absurd lost
+prompt_cut text after start (Some bytes) (Some rest) None mid now limit more lost long done said = tt
+prompt_cut text after start (Some bytes) (Some rest) (Some o) mid now limit more lost long done said =
+    at mid now said (subst (λ lines. Appends (Some o) mid (answers_from text after start 1 lines)) (within_cut limit bytes long) done)
+  where
+    at : (mid now : Option (List ℕ)) → AppendsFront mid now more → Appends (Some o) mid (text_left text after start 1 false (take limit bytes)) → IsPrompt (text_left text after start 1 false) (Some bytes) (Some rest) (Some o) now
+    at None now said done = absurd done
+    at (Some m) None said done = absurd said.1.taken
+    at (Some m) (Some w) said done = λ front back e short.
+        let len : length (take limit bytes) ≡ limit = length-take-le limit bytes (omega (arith, long)) in
+        elim (cases_lt (length front) limit) [
+          | inl inside ↦
+            let p = within_front (take limit bytes) (drop limit bytes) front back (take-append-drop limit bytes ∙ e) (omega (arith, len, inside)) in
+            let least : length (text_left text after start 1 false (front ++ 10 ∷ [])) ≤ length (text_left text after start 1 false (take limit bytes)) =
+            subst (λ x. length (text_left text after start 1 false (front ++ 10 ∷ [])) ≤ length (text_left text after start 1 false x)) (sym p.1) (answers_by text after start 1 front p.0) in
+            absurd (omega (arith, written_length o m w (text_left text after start 1 false (take limit bytes)) more done said))
+          | inr past ↦ omega (arith, ap length lost, length-drop (limit + 1) bytes)
         ]

@@ -5,10 +5,12 @@ use Rattle.std.proofs.Math.Seq.{take-add, take-append_seam, drop-append_seam}
 use Rattle.text_words.specs.Lines.{cut_lines, lines_of, ended_lines}
 use Rattle.streams.specs.Answers.{lines_within}
 
-not_less : (a b : ℕ) → b ≤ a → nat_lt a b ≡ false
+-- a test that a number is not below another
+pub not_less : (a b : ℕ) → b ≤ a → nat_lt a b ≡ false
 not_less a b l = grind (arith, nat_tests)
 
-is_less : (a b : ℕ) → a < b → nat_lt a b ≡ true
+-- a test that it is
+pub is_less : (a b : ℕ) → a < b → nat_lt a b ≡ true
 is_less a b l = grind (arith, nat_tests)
 
 -- all lines of a text within the limit

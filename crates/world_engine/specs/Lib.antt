@@ -1,0 +1,9 @@
+pub mod Statuses
+pub mod Words
+pub mod Asks
+pub mod Worlds
+pub mod Replies
+pub mod Outputs
+pub mod Kept
+pub mod Runs
+pub mod Desks
