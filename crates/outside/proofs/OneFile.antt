@@ -14,9 +14,12 @@ use Rattle.outside.specs.Fakes.{FakeShelf, files_of}
 use Rattle.outside.proofs.Pieces.{take-piece}
 
 -- the file at a name, by a test of the name
-get-files_of : (shelf : FakeShelf) (q : List ℕ) → get (files_of shelf) q ≡ cond (bytes_eq q shelf.name) (Some shelf.bytes) None
+get-files_of : (shelf : FakeShelf) (q : List ℕ)
+    → get (files_of shelf) q ≡ cond (bytes_eq q shelf.name) (Some shelf.bytes) None
 get-files_of shelf q =
-    get-insert nat_list_cmp_total empty shelf.name shelf.bytes q ∙ ap (λ b. cond b (Some shelf.bytes) (get (empty {X = List ℕ} {R = slice_cmp nat_cmp}) q)) (is_eq-slice_cmp q shelf.name)
+    get-insert nat_list_cmp_total empty shelf.name shelf.bytes q
+    ∙ ap (λ b. cond b (Some shelf.bytes) (get (empty {X = List ℕ} {R = slice_cmp nat_cmp}) q))
+    (is_eq-slice_cmp q shelf.name)
     ∙ ap (cond (bytes_eq q shelf.name) (Some shelf.bytes)) (get-empty {X = List ℕ} (slice_cmp nat_cmp) q)
 
 -- another name is not held
@@ -43,12 +46,16 @@ held_is_not_absent shelf q e none = let held : get (files_of shelf) q ≡ Some s
 drop-min : (file : List ℕ) (at start : ℕ) → start ≡ min at (length file) → drop start file ≡ drop at file
 drop-min file at start s = elim (cases_lt at (length file)) [
   | inl below ↦ let e : start ≡ at = omega arith in ap (λ k. drop k file) e
-  | inr past ↦ let low : length file ≤ start = omega arith in drop_of_length-le file low ∙ sym (drop_of_length-le file past)
+  | inr past ↦
+      let low : length file ≤ start = omega arith in
+      drop_of_length-le file low ∙ sym (drop_of_length-le file past)
 ]
 
 -- what a copy of the file's bytes from a place on left in the buffer is what a fetch gives
-pub copy_is_fetched : (shelf : FakeShelf) (q front back : List ℕ) (at start n : ℕ) → q ≡ shelf.name → start ≡ min at (length shelf.bytes)
-    → front ≡ take n (drop start shelf.bytes) → n ≤ length (drop start shelf.bytes) → (n ≡ 0 → length (drop start shelf.bytes) ≡ 0)
+pub copy_is_fetched : (shelf : FakeShelf) (q front back : List ℕ) (at start n : ℕ) → q ≡ shelf.name
+    → start ≡ min at (length shelf.bytes)
+    → front ≡ take n (drop start shelf.bytes) → n ≤ length (drop start shelf.bytes)
+    → (n ≡ 0 → length (drop start shelf.bytes) ≡ 0)
     → FetchGives (get (files_of shelf) q) at n (take n (front ++ back))
 copy_is_fetched shelf q front back at start n same from is fits none =
     let file = shelf.bytes in

@@ -30,8 +30,10 @@ abbrev pub FetchGives : Option (List ℕ) → ℕ → ℕ → List ℕ → Type 
 FetchGives None at n piece = ⊥
 FetchGives (Some file) at n piece = IsPieceOf file at n piece
 
--- the count never falls; a failure comes only where it rose or the name is absent; a success and an absent name leave it
-pub record FetchHasCause {T E : Type 0} (holds : Option Files) (name : List ℕ) (before now : ℕ) (result : Result T E) : Type 0 where
+-- the count never falls; a failure comes only where it rose or the name is absent; a success and an absent name
+-- leave it
+pub record FetchHasCause {T E : Type 0} (holds : Option Files) (name : List ℕ) (before now : ℕ) (result : Result T E)
+    : Type 0 where
   pub later : before ≤ now
   pub failed : OnErr result (Rose before now ⊎ IsAbsent holds name)
   pub kept : OnOk result (now ≡ before)

@@ -63,7 +63,8 @@ pub trait Shelf {
         requires { 0 < length buf.old }
 
         ensures bound { ReadsAtMost result buf.new }
-        ensures bytes { FileIs (holds self.old) name.now (λ file. IfOk result (λ n. FetchGives file at n (take n buf.new))) }
+        ensures bytes { FileIs (holds self.old) name.now
+            (λ file. IfOk result (λ n. FetchGives file at n (take n buf.new))) }
         ensures same { holds self.new ≡ holds self.old }
 
         ensures cause { FetchHasCause (holds self.old) name.now (faults self.old) (faults self.new) result };

@@ -28,7 +28,14 @@ impl Model for MemShelf {
 
     ghost Value = { FakeShelf };
 
-    ghost view = { λ s. record { name = s.name; bytes = s.bytes.items; piece = s.piece; fail = s.fail.items; calls = s.calls; faults = s.faults } };
+    ghost view = { λ s. record {
+      name = s.name;
+      bytes = s.bytes.items;
+      piece = s.piece;
+      fail = s.fail.items;
+      calls = s.calls;
+      faults = s.faults;
+    } };
 
     ghost invariant = { λ s. 0 < s.piece };
 }
@@ -38,7 +45,14 @@ impl MemShelf {
     /// numbers fail.
     pub fn new(name: Name, bytes: Vec<u8>, piece: usize, fail: Vec<u64>) -> MemShelf
         requires { 0 < piece }
-        ensures { result ≡ record { name = name; bytes = bytes.items; piece = piece; fail = fail.items; calls = 0; faults = 0 } }
+        ensures { result ≡ record {
+          name = name;
+          bytes = bytes.items;
+          piece = piece;
+          fail = fail.items;
+          calls = 0;
+          faults = 0;
+        } }
     {
         MemShelf {
             name,
@@ -59,7 +73,8 @@ impl Shelf for MemShelf {
     fn fetch(&mut self, name: &str, at: u64, buf: &mut [u8]) -> Result<usize, Failed>
         requires { 0 < length buf.old }
         ensures bound { ReadsAtMost result buf.new }
-        ensures bytes { FileIs (Some (files_of self.old)) name.now (λ file. IfOk result (λ n. FetchGives file at n (take n buf.new))) }
+        ensures bytes { FileIs (Some (files_of self.old)) name.now
+            (λ file. IfOk result (λ n. FetchGives file at n (take n buf.new))) }
         ensures same { Some (files_of self.new) ≡ Some (files_of self.old) }
         ensures cause { FetchHasCause (Some (files_of self.old)) name.now self.old.faults self.new.faults result }
 
@@ -69,7 +84,9 @@ impl Shelf for MemShelf {
         ensures count { IfOk result (λ n. n ≡ min self.old.piece (min (length buf.old) (length self.old.bytes - at))) }
         ensures ok { OnOk result (self.new ≡ record self.old { calls = count_on self.old.calls }) }
         ensures other_name { name.now ≢ self.old.name → self.new ≡ record self.old { calls = count_on self.old.calls } }
-        ensures err { name.now ≡ self.old.name → OnErr result (self.new ≡ record self.old { calls = count_on self.old.calls; faults = count_on self.old.faults }) }
+        ensures err { name.now ≡ self.old.name →
+            OnErr result
+            (self.new ≡ record self.old { calls = count_on self.old.calls; faults = count_on self.old.faults }) }
     {
         self.calls = self.calls.saturating_add(1);
         if name.as_bytes() != self.name.bytes() {

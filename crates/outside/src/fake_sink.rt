@@ -29,7 +29,14 @@ impl Model for MemSink {
 
     ghost Value = { FakeSink };
 
-    ghost view = { λ s. record { written = take s.count s.bytes.items; room = vec_len s.bytes; piece = s.piece; fail = s.fail.items; calls = s.calls; faults = s.faults } };
+    ghost view = { λ s. record {
+      written = take s.count s.bytes.items;
+      room = vec_len s.bytes;
+      piece = s.piece;
+      fail = s.fail.items;
+      calls = s.calls;
+      faults = s.faults;
+    } };
 
     ghost invariant = { λ s. (s.count ≤ vec_len s.bytes) × (0 < s.piece) };
 }
@@ -39,7 +46,14 @@ impl MemSink {
     /// numbers fail. Where there is no memory for the room, `fail` is dropped.
     pub fn new(alloc: Global, room: usize, piece: usize, fail: Vec<u64>) -> Result<MemSink, Memory>
         requires { 0 < piece }
-        ensures { IfOk result (λ sink. sink ≡ record { written = []; room = room; piece = piece; fail = fail.items; calls = 0; faults = 0 }) }
+        ensures { IfOk result (λ sink. sink ≡ record {
+          written = [];
+          room = room;
+          piece = piece;
+          fail = fail.items;
+          calls = 0;
+          faults = 0;
+        }) }
     {
         let Ok(bytes) = vec![in alloc; 0u8; room] else {
             return Err(Memory);
@@ -77,10 +91,17 @@ impl Sink for MemSink {
 
         // It fails exactly where it is full or was told to, and else takes all that it can.
         ensures fails { IsErr result ↔ Refuses self.old }
-        ensures quiet { self.old.fail ≡ [] → length self.old.written < self.old.room → self.new.faults ≡ self.old.faults }
-        ensures count { IfOk result (λ n. n ≡ min self.old.piece (min (length piece.now) (self.old.room - length self.old.written))) }
-        ensures ok { IfOk result (λ n. self.new ≡ record self.old { written = self.old.written ++ take n piece.now; calls = count_on self.old.calls }) }
-        ensures err { OnErr result (self.new ≡ record self.old { calls = count_on self.old.calls; faults = count_on self.old.faults }) }
+        ensures quiet { self.old.fail ≡ [] → length self.old.written < self.old.room →
+            self.new.faults ≡ self.old.faults }
+        ensures count { IfOk result (λ n.
+            n ≡ min self.old.piece (min (length piece.now) (self.old.room - length self.old.written))) }
+        ensures ok { IfOk result (λ n.
+            self.new ≡ record self.old {
+              written = self.old.written ++ take n piece.now;
+              calls = count_on self.old.calls;
+            }) }
+        ensures err { OnErr result
+            (self.new ≡ record self.old { calls = count_on self.old.calls; faults = count_on self.old.faults }) }
     {
         self.calls = self.calls.saturating_add(1);
         if self.count == self.bytes.len() || self.fail.as_slice().contains(&self.calls) {

@@ -30,7 +30,13 @@ impl Model for MemSource {
 
     ghost Value = { FakeSource };
 
-    ghost view = { λ s. record { left = drop s.at s.bytes.items; piece = s.piece; fail = s.fail.items; calls = s.calls; faults = s.faults } };
+    ghost view = { λ s. record {
+      left = drop s.at s.bytes.items;
+      piece = s.piece;
+      fail = s.fail.items;
+      calls = s.calls;
+      faults = s.faults;
+    } };
 
     ghost invariant = { λ s. (s.at ≤ vec_len s.bytes) × (0 < s.piece) };
 }
@@ -69,8 +75,10 @@ impl Source for MemSource {
         ensures fails { IsErr result ↔ IsToFail self.old.fail self.old.calls }
         ensures quiet { self.old.fail ≡ [] → self.new.faults ≡ self.old.faults }
         ensures count { IfOk result (λ n. n ≡ min self.old.piece (min (length buf.old) (length self.old.left))) }
-        ensures ok { IfOk result (λ n. self.new ≡ record self.old { left = drop n self.old.left; calls = count_on self.old.calls }) }
-        ensures err { OnErr result (self.new ≡ record self.old { calls = count_on self.old.calls; faults = count_on self.old.faults }) }
+        ensures ok { IfOk result (λ n.
+            self.new ≡ record self.old { left = drop n self.old.left; calls = count_on self.old.calls }) }
+        ensures err { OnErr result
+            (self.new ≡ record self.old { calls = count_on self.old.calls; faults = count_on self.old.faults }) }
     {
         self.calls = self.calls.saturating_add(1);
         if self.fail.as_slice().contains(&self.calls) {

@@ -1,7 +1,14 @@
 //! What no clause says: that a call succeeds where memory is ample, and that the clauses mean what a reader takes them
 //! to mean, by cases worked out by hand.
 
-use crate::{Failed, Gate, MemShelf, MemSink, MemSource, Name, OpenGate, Shelf, Sink, Source};
+use crate::{
+    Failed, Gate, MemShelf, MemSink, MemSource, Name, OpenGate, Shelf, Sink, Source, StdSink,
+    StdSource,
+};
+use std::alloc::Allocator;
+use std::fmt::Display;
+use std::io;
+use std::io::{BufRead, Lines, Print, Read};
 use std::test::Fail;
 
 #[test]
@@ -131,4 +138,84 @@ fn names_are_equal_where_their_bytes_are(rt: HostRuntime) -> Result<(), Fail> {
 #[test]
 fn nobody_waits_at_an_open_gate() {
     OpenGate.pass(0, 0);
+}
+
+// A terminal whose reads fail, and whose writes take so many bytes at most, or fail.
+#[derive(Drop)]
+struct Terminal {
+    takes: Option<usize>,
+}
+
+#[derive(Clone, Copy)]
+struct Broken;
+
+impl Read for Broken {
+    fn read(&mut self, _buf: &mut [u8]) -> io::Result<usize> {
+        Err(io::ErrorKind::Other.into())
+    }
+}
+
+impl BufRead for Broken {
+    fn fill_buf(&mut self) -> io::Result<&[u8]> {
+        Err(io::ErrorKind::Other.into())
+    }
+
+    fn consume(&mut self, _amount: usize) {}
+}
+
+impl Input for Terminal {
+    type Reader = Broken;
+
+    fn read_line<A: Allocator + Clone>(&self, _line: &mut String<A>) -> io::Result<usize> {
+        Err(io::ErrorKind::Other.into())
+    }
+
+    fn lines<A: Allocator>(&self, alloc: A) -> Lines<Broken, A> {
+        self.reader().lines(alloc)
+    }
+
+    fn reader(&self) -> Broken {
+        Broken
+    }
+}
+
+impl Print for Terminal {
+    fn print<D: Display + Drop>(&self, _value: D) -> io::Result<()> {
+        Err(io::ErrorKind::Other.into())
+    }
+
+    fn println<D: Display + Drop>(&self, _value: D) -> io::Result<()> {
+        Err(io::ErrorKind::Other.into())
+    }
+
+    fn write_all(&self, _bytes: &[u8]) -> io::Result<()> {
+        Err(io::ErrorKind::Other.into())
+    }
+
+    fn write_some(&self, bytes: &[u8]) -> io::Result<usize> {
+        match self.takes {
+            Some(most) => Ok(most.min(bytes.len())),
+            None => Err(io::ErrorKind::Other.into()),
+        }
+    }
+}
+
+#[test]
+fn an_error_of_the_terminal_is_a_failure(rt: HostRuntime) {
+    let answers = [
+        (None, Err(Failed)),
+        (Some(0), Err(Failed)),
+        (Some(2), Ok(2)),
+        (Some(9), Ok(3)),
+    ];
+    for (takes, want) in answers {
+        let terminal = Terminal { takes };
+        let mut buf = [0u8; 8];
+        assert_eq!(rt; StdSource::new(&terminal).read(&mut buf), Err(Failed));
+        assert_eq!(rt;
+            StdSink::new(&terminal).write(b"box"),
+            want,
+            "where it takes {takes:?}"
+        );
+    }
 }

@@ -12,9 +12,11 @@ fn main(rt: HostRuntime) -> Result<(), Failed> {
     for at in [0, 2, 10, 15, 29, 31, 32, 1 << 40] {
         put_piece(&mut out, &mut shelf, "note.txt", at)?;
     }
-    for name in ["empty.txt", "absent.txt", ".", "note.txt"] {
+    for name in ["empty.txt", "absent.txt", "."] {
         put_piece(&mut out, &mut shelf, name, 0)?;
+        put_piece(&mut out, &mut shelf, name, 7)?;
     }
+    put_piece(&mut out, &mut shelf, "note.txt", 0)?;
     put_source(&mut out, &mut script)
 }
 

@@ -26,5 +26,6 @@ returns-then-contains-clause-cause c =
 pub returns-clause-bytes : goal.returns-clause-bytes
 returns-clause-bytes c =
     let same : c.args.name.now ≡ c.args.self.now.name = search rules in
-    copy_is_fetched c.args.self.now c.args.name.now c.copy_from_slice.new.self _ c.args.at c.min-start.result c.min-count.result same
-    (grind (arith, common_steps)) (grind (arith, common_steps)) (grind (arith, common_steps)) (grind (arith, common_steps))
+    copy_is_fetched c.args.self.now c.args.name.now c.copy_from_slice.new.self _ c.args.at c.min-start.result
+    c.min-count.result same (grind (arith, common_steps)) (grind (arith, common_steps))
+    (grind (arith, common_steps)) (grind (arith, common_steps))
