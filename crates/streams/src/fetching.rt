@@ -3,7 +3,7 @@
 ghost use Rattle.std.specs.Prelude.{◌≡◌, ◌⊎◌, ◌≤◌, ◌<◌, ◌^◌, IfOk, OnOk, IsErrOf};
 ghost use Rattle.outside.specs.Causes.{Rose};
 ghost use Rattle.outside.specs.Files.{FileIs, IsAbsent};
-ghost use Rattle.streams.specs.Loads.{IsLoadedFile};
+ghost use Rattle.streams.specs.Loads.{IsLoadedFile, IsWithin};
 
 use crate::{LoadFault, Loaded, PIECE};
 use outside::Shelf;
@@ -19,6 +19,7 @@ pub fn fetch_all<H: Shelf>(
     requires { limit < 2 ^ 62 }
 
     ensures whole { IfOk result (λ loaded. FileIs (H.holds shelf.old) name.now (λ file. IsLoadedFile limit loaded file)) }
+    ensures within { IfOk result (IsWithin limit) }
     ensures same { H.holds shelf.new ≡ H.holds shelf.old }
 
     ensures read { IsErrOf result LoadFault.Read → Rose (H.faults shelf.old) (H.faults shelf.new) ⊎ IsAbsent (H.holds shelf.old) name.now }

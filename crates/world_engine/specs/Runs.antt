@@ -93,3 +93,8 @@ IsAnswered MeshRefused = ⊥
 IsAnswered ReadFault = ⊥
 IsAnswered WriteFault = ⊥
 IsAnswered Memory = ⊥
+
+-- what a device told and its count are as before
+pub record IsUntouched {T : Type 0} (told told_now : T) (faults faults_now : ℕ) : Type 0 where
+  pub content : told_now ≡ told
+  pub count : faults_now ≡ faults

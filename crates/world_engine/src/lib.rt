@@ -12,8 +12,10 @@ mod numbers;
 mod replies;
 mod reply;
 mod runs;
+mod stages;
 mod status;
 mod words;
 mod world;
 
+pub use runs::run;
 pub use status::Status;

@@ -1,80 +1,106 @@
-//! A run, from its words to its status: all that the program does. Each function says of its part what `run` says of
-//! the whole.
+//! A run: all that the program does, from its words to its status.
 
-ghost use Rattle.std.specs.Prelude.{◌≡◌, ◌⊎◌, ◌≤◌, ◌+◌, ◌≢◌, None, Some, IfSome, IfOk, OnOk, OnErr, IsErrOf, length, true, false};
-ghost use Rattle.std.specs.Io.KnownBytes.{Appends, Keeps};
+ghost use Rattle.std.specs.Prelude.{◌≡◌, ◌⊎◌, ◌≤◌, ◌+◌, None, IfSome};
+ghost use Rattle.std.specs.Io.KnownBytes.{Appends};
 ghost use Rattle.outside.specs.Causes.{Rose};
-ghost use Rattle.streams.specs.Owed.{AppendsFront};
 ghost use Rattle.streams.specs.Taken.{Taken, Loses, IsPrompt};
-ghost use Rattle.obj_text.specs.Texts.{mesh_of};
 ghost use Rattle.world_engine.specs.Words.{mesh_name, texts_of};
-ghost use Rattle.world_engine.specs.Worlds.{world_of};
-ghost use Rattle.world_engine.specs.Outputs.{output_of, script_output, mesh_output, says, status_of};
-ghost use Rattle.world_engine.specs.Runs.{Fulfils, IsComplete, IsAbsentMesh, MeshIs, IsRefusedFile, IsRefusedMesh, IsFaulty, world_in, world_of_name, replies_to_ended, IsAnswered};
+ghost use Rattle.world_engine.specs.Outputs.{output_of};
+ghost use Rattle.world_engine.specs.Runs.{Fulfils, IsComplete, IsAbsentMesh, MeshIs, IsRefusedFile, IsRefusedMesh, world_of_name, replies_to_ended, IsAnswered, IsUntouched};
 
 use std::alloc::Global;
 use std::thread::Threads;
 
-use obj_text::{MOST_BYTES, MeshFault, read_mesh};
+use obj_text::MOST_BYTES;
 use outside::{Gate, Shelf, Sink, Source};
-use streams::{Ended, LoadFault, Loaded, Stop, answer_lines, fetch_all, write_all};
+use streams::{LoadFault, Loaded, fetch_all};
 
-use crate::desk::Desk;
-use crate::limits::{SCRIPT_MOST, UNIT};
-use crate::replies::refusal_text;
+use crate::limits::SCRIPT_MOST;
+use crate::stages::{answer_mesh, say};
 use crate::status::Status;
 use crate::words::mesh_name;
-use crate::world::World;
 
-/// Writes a text, and answers the status, or that the sink failed.
-fn say<K: Sink>(out: &mut K, text: &[u8], status: Status) -> Status
-    ensures output { Fulfils (says text.now status) result (K.written out.old) (K.written out.new) }
-    ensures answers { (result ≡ status) ⊎ ((result ≡ Status.WriteFault) × Rose (K.faults out.old) (K.faults out.new)) }
-    ensures sink { K.faults out.old ≤ K.faults out.new }
-{
-    match write_all(out, text) {
-        Ok(()) => status,
-        Err(_) => Status::WriteFault,
-    }
-}
+/// Does all that the program does: reads the words, fetches the mesh that they name, and answers the script line by
+/// line, each reply written before the next line is answered.
+///
+/// The words are those after the program's name; the one form accepted is a single word that names the mesh, which is
+/// not empty and does not begin with `-`. Mesh and script have 64 grid steps to a unit. A mesh file of more than
+/// 268,435,456 bytes and a script of more than 16,777,216 bytes are refused, the script after the replies to the lines
+/// that ended within its first 16,777,216 bytes.
+///
+/// What is written is a function of words, files and script alone (`specs/Outputs`). A device that fails, or want of
+/// memory, ends the run at once; what was written is then a front of that text.
+pub fn run<R: Threads + Sync, H: Shelf, S: Source, K: Sink, G: Gate>(_rt: &R, alloc: Global, words: &[String], shelf: &mut H, script: &mut S, out: &mut K, _gate: &G) -> Status
+    // The headline: as far as the devices tell what the output depends on, the run writes exactly the defined output,
+    // with its status; or it stops with another status after a front of it.
+    ensures output { IfSome (output_of (texts_of words.now) (H.holds shelf.old) (S.left script.old)) (λ output.
+        Fulfils output result (K.written out.old) (K.written out.new)) }
 
-/// The status of a script that was answered.
-fn status_of(refused: bool) -> Status
-    ensures { result ≡ status_of refused }
-{
-    if refused {
-        Status::LinesRefused
-    } else {
-        Status::Done
-    }
-}
+    // Where no device failed, it writes the whole, unless memory ran out.
+    ensures complete { ¬ Rose (H.faults shelf.old) (H.faults shelf.new) → ¬ Rose (S.faults script.old) (S.faults script.new) → ¬ Rose (K.faults out.old) (K.faults out.new)
+        → IfSome (output_of (texts_of words.now) (H.holds shelf.old) (S.left script.old)) (λ output. IsComplete output result) }
 
-/// Answers the script of a world.
-fn answer_script<S: Source, K: Sink>(alloc: Global, world: World, script: &mut S, out: &mut K) -> Status
-    ensures output { IfSome (S.left script.old) (λ bytes. Fulfils (script_output UNIT world bytes) result (K.written out.old) (K.written out.new)) }
-    ensures usage { result ≢ Status.Usage }
-    ensures mesh { result ≢ Status.MeshRefused }
-    ensures read { result ≡ Status.ReadFault → Rose (S.faults script.old) (S.faults script.new) }
+    // Each status comes only with its cause.
+    ensures usage { result ≡ Status.Usage → mesh_name (texts_of words.now) ≡ None }
+    ensures mesh { result ≡ Status.MeshRefused → MeshIs (H.holds shelf.old) (mesh_name (texts_of words.now)) IsRefusedFile }
+    ensures read { result ≡ Status.ReadFault → Rose (H.faults shelf.old) (H.faults shelf.new) ⊎ Rose (S.faults script.old) (S.faults script.new)
+        ⊎ IsAbsentMesh (H.holds shelf.old) (mesh_name (texts_of words.now)) }
     ensures write { result ≡ Status.WriteFault → Rose (K.faults out.old) (K.faults out.new) }
-    ensures partial { result ≡ Status.ReadFault → Taken (S.left script.old) (S.left script.new) (λ front.
-        Appends (K.written out.old) (K.written out.new) (replies_to_ended world front)) }
-    ensures prompt { result ≡ Status.WriteFault → IsPrompt (replies_to_ended world) (S.left script.old) (S.left script.new) (K.written out.old) (K.written out.new) }
+    ensures absent { IsAbsentMesh (H.holds shelf.old) (mesh_name (texts_of words.now)) → (result ≡ Status.ReadFault) ⊎ (result ≡ Status.Memory) }
+
+    // After a failed fetch nothing was written; after a failed read of the script, exactly the replies to the lines that
+    // ended in what was taken of it. After a failed write, less than a piece was taken behind the line feed of the first
+    // line whose reply was not wholly written.
+    ensures silent { result ≡ Status.ReadFault → Rose (S.faults script.old) (S.faults script.new) ⊎ (K.written out.new ≡ K.written out.old) }
+    ensures partial { result ≡ Status.ReadFault → IfSome (world_of_name (H.holds shelf.old) (mesh_name (texts_of words.now))) (λ world.
+        Taken (S.left script.old) (S.left script.new) (λ front. Appends (K.written out.old) (K.written out.new) (replies_to_ended world front))) }
+    ensures prompt { result ≡ Status.WriteFault → IfSome (world_of_name (H.holds shelf.old) (mesh_name (texts_of words.now))) (λ world.
+        IsPrompt (replies_to_ended world) (S.left script.old) (S.left script.new) (K.written out.old) (K.written out.new)) }
+
+    // A script that was answered was read to its end, or to the first byte past its limit. Neither shelf nor script is
+    // touched where the words are refused, nor the script where the mesh is.
     ensures taken { IsAnswered result → Loses (SCRIPT_MOST + 1) (S.left script.old) (S.left script.new) }
+    ensures untouched { mesh_name (texts_of words.now) ≡ None → IsUntouched (H.holds shelf.old) (H.holds shelf.new) (H.faults shelf.old) (H.faults shelf.new) }
+    ensures unread { (mesh_name (texts_of words.now) ≡ None) ⊎ (result ≡ Status.MeshRefused) ⊎ IsRefusedMesh (H.holds shelf.old) (mesh_name (texts_of words.now))
+        → IsUntouched (S.left script.old) (S.left script.new) (S.faults script.old) (S.faults script.new) }
+
+    // No count of faults falls.
+    ensures shelf { H.faults shelf.old ≤ H.faults shelf.new }
     ensures source { S.faults script.old ≤ S.faults script.new }
     ensures sink { K.faults out.old ≤ K.faults out.new }
 {
-    let desk = Desk {
-        world,
-        unit: UNIT,
-        refused: false,
+    run_words(alloc, words, shelf, script, out)
+}
+
+/// Does all that the program does; `run` says what follows from it.
+fn run_words<H: Shelf, S: Source, K: Sink>(alloc: Global, words: &[String], shelf: &mut H, script: &mut S, out: &mut K) -> Status
+    ensures output { IfSome (output_of (texts_of words.now) (H.holds shelf.old) (S.left script.old)) (λ output. Fulfils output result (K.written out.old) (K.written out.new)) }
+    ensures usage { result ≡ Status.Usage → mesh_name (texts_of words.now) ≡ None }
+    ensures mesh { result ≡ Status.MeshRefused → MeshIs (H.holds shelf.old) (mesh_name (texts_of words.now)) IsRefusedFile }
+    ensures read { result ≡ Status.ReadFault → Rose (H.faults shelf.old) (H.faults shelf.new) ⊎ Rose (S.faults script.old) (S.faults script.new)
+        ⊎ IsAbsentMesh (H.holds shelf.old) (mesh_name (texts_of words.now)) }
+    ensures write { result ≡ Status.WriteFault → Rose (K.faults out.old) (K.faults out.new) }
+    ensures absent { IsAbsentMesh (H.holds shelf.old) (mesh_name (texts_of words.now)) → (result ≡ Status.ReadFault) ⊎ (result ≡ Status.Memory) }
+    ensures silent { result ≡ Status.ReadFault → Rose (S.faults script.old) (S.faults script.new) ⊎ (K.written out.new ≡ K.written out.old) }
+    ensures partial { result ≡ Status.ReadFault → IfSome (world_of_name (H.holds shelf.old) (mesh_name (texts_of words.now))) (λ world.
+        Taken (S.left script.old) (S.left script.new) (λ front. Appends (K.written out.old) (K.written out.new) (replies_to_ended world front))) }
+    ensures prompt { result ≡ Status.WriteFault → IfSome (world_of_name (H.holds shelf.old) (mesh_name (texts_of words.now))) (λ world.
+        IsPrompt (replies_to_ended world) (S.left script.old) (S.left script.new) (K.written out.old) (K.written out.new)) }
+    ensures taken { IsAnswered result → Loses (SCRIPT_MOST + 1) (S.left script.old) (S.left script.new) }
+    ensures untouched { mesh_name (texts_of words.now) ≡ None → IsUntouched (H.holds shelf.old) (H.holds shelf.new) (H.faults shelf.old) (H.faults shelf.new) }
+    ensures unread { (mesh_name (texts_of words.now) ≡ None) ⊎ (result ≡ Status.MeshRefused) ⊎ IsRefusedMesh (H.holds shelf.old) (mesh_name (texts_of words.now))
+        → IsUntouched (S.left script.old) (S.left script.new) (S.faults script.old) (S.faults script.new) }
+    ensures shelf { H.faults shelf.old ≤ H.faults shelf.new }
+    ensures source { S.faults script.old ≤ S.faults script.new }
+    ensures sink { K.faults out.old ≤ K.faults out.new }
+{
+    let Some(name) = mesh_name(words) else {
+        return say(out, b"bad command line\n", Status::Usage);
     };
-    match answer_lines(alloc, desk, script, out, SCRIPT_MOST) {
-        Ok(done) => match done.ended {
-            Ended::Whole => status_of(done.answerer.refused),
-            Ended::TooLong => say(out, b"script too long\n", Status::LinesRefused),
-        },
-        Err(Stop::Read) => Status::ReadFault,
-        Err(Stop::Write) => Status::WriteFault,
-        Err(Stop::Memory) => Status::Memory,
+    match fetch_all(alloc, shelf, name, MOST_BYTES) {
+        Ok(Loaded::Whole(text)) => answer_mesh(alloc, text, script, out),
+        Ok(Loaded::TooLong) => say(out, b"mesh too long\n", Status::MeshRefused),
+        Err(LoadFault::Read) => Status::ReadFault,
+        Err(LoadFault::Memory) => Status::Memory,
     }
 }

@@ -4,7 +4,7 @@ use Rattle.world_engine.specs.Desks.{desk_text, desk_after}
 use Rattle.world_engine.specs.declared.limits.TheConstants.{SCRIPT_MOST}
 use Rattle.world_engine.proofs.DeskAnswers.{new_desk, script_stops, script_ends, script_cut, taken_replies, prompt_replies}
 use Rattle.world_engine.proofs.Ends.{whole_is_within, too_long_is_past}
-use Rattle.world_engine.proofs.runs.answer_script.Goals as goal
+use Rattle.world_engine.proofs.stages.answer_script.Goals as goal
 
 pub returns-in-Whole-clause-output : goal.returns-in-Whole-clause-output
 returns-in-Whole-clause-output g c =

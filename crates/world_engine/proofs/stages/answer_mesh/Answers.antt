@@ -1,0 +1,8 @@
+use Rattle.world_engine.proofs.Stops.{stopped_told}
+use Rattle.world_engine.proofs.stages.answer_mesh.Goals as goal
+
+pub returns-in-Err-Memory-clause-output : goal.returns-in-Err-Memory-clause-output
+returns-in-Err-Memory-clause-output g c = stopped_told _ _ _ (λ w. w)
+
+pub returns-in_default-clause-output : goal.returns-in_default-clause-output
+returns-in_default-clause-output g c = stopped_told _ _ _ (λ w. w)

@@ -1,0 +1,126 @@
+//! The stages of a run behind its words: the mesh is opened, or word is written that it is refused, and the script is
+//! answered. Each says of its part what a run says of the whole.
+
+ghost use Rattle.std.specs.Prelude.{◌≡◌, ◌⊎◌, ◌≤◌, ◌+◌, ◌≢◌, Ok, IfSome, IfOk, IfErr, length};
+ghost use Rattle.std.specs.Io.KnownBytes.{Appends};
+ghost use Rattle.outside.specs.Causes.{Rose};
+ghost use Rattle.streams.specs.Taken.{Taken, Loses, IsPrompt};
+ghost use Rattle.obj_text.specs.Texts.{mesh_of, IsRefusalOf};
+ghost use Rattle.world_engine.specs.Replies.{refusal_text};
+ghost use Rattle.world_engine.specs.Outputs.{script_output, mesh_output, says, status_of};
+ghost use Rattle.world_engine.specs.Runs.{Fulfils, IsFaulty, world_in, replies_to_ended, IsAnswered, IsUntouched};
+
+use std::alloc::Global;
+
+use obj_text::{MOST_BYTES, Mesh, MeshFault, Why, read_mesh};
+use outside::{Sink, Source};
+use streams::{Ended, Stop, answer_lines, write_all};
+
+use crate::desk::Desk;
+use crate::limits::{SCRIPT_MOST, UNIT};
+use crate::replies::refusal_text;
+use crate::status::Status;
+use crate::world::World;
+
+/// Writes a text, and answers the status, or that the sink failed.
+pub fn say<K: Sink>(out: &mut K, text: &[u8], status: Status) -> Status
+    ensures output { Fulfils (says text.now status) result (K.written out.old) (K.written out.new) }
+    ensures answers { (result ≡ status) ⊎ ((result ≡ Status.WriteFault) × Rose (K.faults out.old) (K.faults out.new)) }
+    ensures sink { K.faults out.old ≤ K.faults out.new }
+{
+    match write_all(out, text) {
+        Ok(()) => status,
+        Err(_) => Status::WriteFault,
+    }
+}
+
+/// The status of a script that was answered.
+fn status_of(refused: bool) -> Status
+    ensures { result ≡ status_of refused }
+{
+    if refused {
+        Status::LinesRefused
+    } else {
+        Status::Done
+    }
+}
+
+/// Answers the script of a world.
+fn answer_script<S: Source, K: Sink>(alloc: Global, world: World, script: &mut S, out: &mut K) -> Status
+    ensures output { IfSome (S.left script.old) (λ bytes. Fulfils (script_output UNIT world bytes) result (K.written out.old) (K.written out.new)) }
+    ensures usage { result ≢ Status.Usage }
+    ensures mesh { result ≢ Status.MeshRefused }
+    ensures read { result ≡ Status.ReadFault → Rose (S.faults script.old) (S.faults script.new) }
+    ensures write { result ≡ Status.WriteFault → Rose (K.faults out.old) (K.faults out.new) }
+    ensures partial { result ≡ Status.ReadFault → Taken (S.left script.old) (S.left script.new) (λ front.
+        Appends (K.written out.old) (K.written out.new) (replies_to_ended world front)) }
+    ensures prompt { result ≡ Status.WriteFault → IsPrompt (replies_to_ended world) (S.left script.old) (S.left script.new) (K.written out.old) (K.written out.new) }
+    ensures taken { IsAnswered result → Loses (SCRIPT_MOST + 1) (S.left script.old) (S.left script.new) }
+    ensures source { S.faults script.old ≤ S.faults script.new }
+    ensures sink { K.faults out.old ≤ K.faults out.new }
+{
+    let desk = Desk {
+        world,
+        unit: UNIT,
+        refused: false,
+    };
+    match answer_lines(alloc, desk, script, out, SCRIPT_MOST) {
+        Ok(done) => match done.ended {
+            Ended::Whole => status_of(done.answerer.refused),
+            Ended::TooLong => say(out, b"script too long\n", Status::LinesRefused),
+        },
+        Err(Stop::Read) => Status::ReadFault,
+        Err(Stop::Write) => Status::WriteFault,
+        Err(Stop::Memory) => Status::Memory,
+    }
+}
+
+/// Reads the text of a mesh, and lets the text go.
+fn open_mesh(alloc: Global, text: Vec<u8>) -> Result<Mesh, MeshFault>
+    requires { length text.items ≤ MOST_BYTES }
+    ensures mesh { IfOk result (λ mesh. mesh_of UNIT text.items ≡ Ok mesh) }
+    ensures refusal { IfErr result (IsRefusalOf (mesh_of UNIT text.items)) }
+{
+    read_mesh(alloc, &text, UNIT)
+}
+
+/// Opens the world of a mesh text and answers the script in it.
+pub fn answer_mesh<S: Source, K: Sink>(alloc: Global, text: Vec<u8>, script: &mut S, out: &mut K) -> Status
+    requires { length text.items ≤ MOST_BYTES }
+    ensures output { IfSome (mesh_output (mesh_of UNIT text.items) (S.left script.old)) (λ output. Fulfils output result (K.written out.old) (K.written out.new)) }
+    ensures usage { result ≢ Status.Usage }
+    ensures mesh { result ≡ Status.MeshRefused → IsFaulty (mesh_of UNIT text.items) }
+    ensures read { result ≡ Status.ReadFault → Rose (S.faults script.old) (S.faults script.new) }
+    ensures write { result ≡ Status.WriteFault → Rose (K.faults out.old) (K.faults out.new) }
+    ensures partial { result ≡ Status.ReadFault → IfSome (world_in (mesh_of UNIT text.items)) (λ world. Taken (S.left script.old) (S.left script.new) (λ front.
+        Appends (K.written out.old) (K.written out.new) (replies_to_ended world front))) }
+    ensures prompt { result ≡ Status.WriteFault → IfSome (world_in (mesh_of UNIT text.items)) (λ world.
+        IsPrompt (replies_to_ended world) (S.left script.old) (S.left script.new) (K.written out.old) (K.written out.new)) }
+    ensures taken { IsAnswered result → Loses (SCRIPT_MOST + 1) (S.left script.old) (S.left script.new) }
+    ensures refused { result ≡ Status.MeshRefused → IsUntouched (S.left script.old) (S.left script.new) (S.faults script.old) (S.faults script.new) }
+    ensures faulty { IsFaulty (mesh_of UNIT text.items) → IsUntouched (S.left script.old) (S.left script.new) (S.faults script.old) (S.faults script.new) }
+    ensures source { S.faults script.old ≤ S.faults script.new }
+    ensures sink { K.faults out.old ≤ K.faults out.new }
+{
+    let mesh = match open_mesh(alloc, text) {
+        Ok(mesh) => mesh,
+        Err(MeshFault::Line { line, why }) => return refuse_mesh(alloc, line, why, out),
+        Err(MeshFault::Memory) => return Status::Memory,
+    };
+    let Ok(world) = World::new(alloc, mesh) else {
+        return Status::Memory;
+    };
+    answer_script(alloc, world, script, out)
+}
+
+/// Writes word that the mesh is refused at a line.
+fn refuse_mesh<K: Sink>(alloc: Global, line: u32, why: Why, out: &mut K) -> Status
+    ensures output { Fulfils (says (refusal_text (record { line = line; why = why })) Status.MeshRefused) result (K.written out.old) (K.written out.new) }
+    ensures answers { (result ≡ Status.MeshRefused) ⊎ (result ≡ Status.Memory) ⊎ ((result ≡ Status.WriteFault) × Rose (K.faults out.old) (K.faults out.new)) }
+    ensures sink { K.faults out.old ≤ K.faults out.new }
+{
+    let Ok(text) = refusal_text(alloc, line, why) else {
+        return Status::Memory;
+    };
+    say(out, &text, Status::MeshRefused)
+}
