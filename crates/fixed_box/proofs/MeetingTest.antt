@@ -44,16 +44,15 @@ boxes_meet_is a b =
     let y = crosses_is a.lo.y a.hi.y b.lo.y b.hi.y in
     let z = crosses_is a.lo.z a.hi.z b.lo.z b.hi.z in
     let xy = both_true (crosses a.lo.x a.hi.x b.lo.x b.hi.x) (crosses a.lo.y a.hi.y b.lo.y b.hi.y) in
-    let xyz = both_true (crosses a.lo.x a.hi.x b.lo.x b.hi.x && crosses a.lo.y a.hi.y b.lo.y b.hi.y) (crosses a.lo.z a.hi.z b.lo.z b.hi.z) in
-    (
-        λ t.
-            let p = xyz.0 t in
-            let q = xy.0 (p.0) in
-            (meets_by_corners a b).1 record {
-              first = record { x = (x.0 (q.0)).0; y = (y.0 (q.1)).0; z = (z.0 (p.1)).0 };
-              second = record { x = (x.0 (q.0)).1; y = (y.0 (q.1)).1; z = (z.0 (p.1)).1 };
-            },
-        λ m.
-            let c = (meets_by_corners a b).0 m in
-            xyz.1 (xy.1 (x.1 (c.first.x, c.second.x), y.1 (c.first.y, c.second.y)), z.1 (c.first.z, c.second.z)),
+    let xyz = both_true (crosses a.lo.x a.hi.x b.lo.x b.hi.x && crosses a.lo.y a.hi.y b.lo.y b.hi.y) (crosses a.lo.z a.hi.z b.lo.z b.hi.z) in (
+      λ t.
+          let p = xyz.0 t in
+          let q = xy.0 (p.0) in
+          (meets_by_corners a b).1 record {
+            first = record { x = (x.0 (q.0)).0; y = (y.0 (q.1)).0; z = (z.0 (p.1)).0 };
+            second = record { x = (x.0 (q.0)).1; y = (y.0 (q.1)).1; z = (z.0 (p.1)).1 };
+          },
+      λ m.
+          let c = (meets_by_corners a b).0 m in
+          xyz.1 (xy.1 (x.1 (c.first.x, c.second.x), y.1 (c.first.y, c.second.y)), z.1 (c.first.z, c.second.z)),
     )

@@ -117,9 +117,9 @@ prompt_cut text after start (Some bytes) (Some rest) (Some o) mid now limit more
         let len : length (take limit bytes) ≡ limit = length-take-le limit bytes (omega (arith, long)) in
         elim (cases_lt (length front) limit) [
           | inl inside ↦
-            let p = within_front (take limit bytes) (drop limit bytes) front back (take-append-drop limit bytes ∙ e) (omega (arith, len, inside)) in
-            let least : length (text_left text after start 1 false (front ++ 10 ∷ [])) ≤ length (text_left text after start 1 false (take limit bytes)) =
-            subst (λ x. length (text_left text after start 1 false (front ++ 10 ∷ [])) ≤ length (text_left text after start 1 false x)) (sym p.1) (answers_by text after start 1 front p.0) in
-            absurd (omega (arith, written_length o m w (text_left text after start 1 false (take limit bytes)) more done said))
+              let p = within_front (take limit bytes) (drop limit bytes) front back (take-append-drop limit bytes ∙ e) (omega (arith, len, inside)) in
+              let least : length (text_left text after start 1 false (front ++ 10 ∷ [])) ≤ length (text_left text after start 1 false (take limit bytes)) =
+              subst (λ x. length (text_left text after start 1 false (front ++ 10 ∷ [])) ≤ length (text_left text after start 1 false x)) (sym p.1) (answers_by text after start 1 front p.0) in
+              absurd (omega (arith, written_length o m w (text_left text after start 1 false (take limit bytes)) more done said))
           | inr past ↦ omega (arith, ap length lost, length-drop (limit + 1) bytes)
         ]

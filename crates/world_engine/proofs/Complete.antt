@@ -22,9 +22,9 @@ complete_status o LinesRefused old now H S K A absent h s k fulfils read write =
 complete_status o Memory old now H S K A absent h s k fulfils read write = inl refl
 complete_status o WriteFault old now H S K A absent h s k fulfils read write = absurd (k (write refl))
 complete_status o ReadFault old now H S K A absent h s k fulfils read write = elim (read refl) [
-    | inl x ↦ absurd (h x)
-    | inr y ↦ elim y [ inl x ↦ absurd (s x) | inr x ↦ inr (absent x) ]
-  ]
+  | inl x ↦ absurd (h x)
+  | inr y ↦ elim y [ inl x ↦ absurd (s x) | inr x ↦ inr (absent x) ]
+]
 
 -- the same, where the output is told
 pub complete_output : (o : Option Output) (status : Status) (old now : Option (List ℕ)) (H S K A : Type 0) → (A → IfSome o (λ output. ReadFault ≡ output.status)) → (H → ⊥) → (S → ⊥) → (K → ⊥)

@@ -49,18 +49,21 @@ front_longer old now text more p = (p.0 ++ more, record { front = p.1.front; who
 
 -- a front after a whole text
 front_after : (old mid now : Option (List ℕ)) (text more : List ℕ) → Appends old mid text → AppendsFront mid now more → AppendsFront old now (text ++ more)
-front_after old mid now text more done p = (p.0, record {
+front_after old mid now text more done p = (
+  p.0,
+  record {
     front = text ++ p.1.front;
     whole = ap (λ x. text ++ x) p.1.whole ∙ sym (append_assoc text p.1.front p.0);
     taken = Appends-trans old mid now text p.1.front done p.1.taken;
-  })
+  },
+)
 
 -- a front of the answers is a front of the script's output
 front_of_script : (world : WorldState) (old now : Option (List ℕ)) (bytes : List ℕ) → AppendsFront old now (texts_from 1 (replies_of UNIT world (lines_within SCRIPT_MOST bytes)))
     → AppendsFront old now (script_output UNIT world bytes).text
 front_of_script world old now bytes p =
     elim (nat_lt SCRIPT_MOST (length bytes)) as (λ b. AppendsFront old now (texts_from 1 (replies_of UNIT world (cond b (ended_lines (take SCRIPT_MOST bytes)) (lines_of bytes))))
-        → AppendsFront old now (cond b (cut_output (replies_of UNIT world (ended_lines (take SCRIPT_MOST bytes)))) (whole_output (replies_of UNIT world (lines_of bytes)))).text) [
+    → AppendsFront old now (cond b (cut_output (replies_of UNIT world (ended_lines (take SCRIPT_MOST bytes)))) (whole_output (replies_of UNIT world (lines_of bytes)))).text) [
       | true ↦ λ q. front_longer old now _ _ q
       | false ↦ λ q. q
     ] p

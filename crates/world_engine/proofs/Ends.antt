@@ -8,9 +8,9 @@ use Rattle.streams.specs.declared.answerer.Ended.TheVariants.{Whole, TooLong}
 pub whole_is_within : (left : Option (List ℕ)) (ended : Ended) (limit : ℕ) → ended ≡ Whole → IfSome left (λ bytes. (ended ≡ TooLong) ↔ (limit < length bytes)) → IfSome left (λ bytes. length bytes ≤ limit)
 whole_is_within None ended limit e p = tt
 whole_is_within (Some bytes) ended limit e p = elim (cases_lt limit (length bytes)) [
-    | inl long ↦ let no : ended ≡ TooLong = p.1 long in absurd (let clash : ⊥ = cc in clash)
-    | inr few ↦ few
-  ]
+  | inl long ↦ let no : ended ≡ TooLong = p.1 long in absurd (let clash : ⊥ = cc in clash)
+  | inr few ↦ few
+]
 
 -- a script that was too long is past it
 pub too_long_is_past : (left : Option (List ℕ)) (ended : Ended) (limit : ℕ) → ended ≡ TooLong → IfSome left (λ bytes. (ended ≡ TooLong) ↔ (limit < length bytes)) → IfSome left (λ bytes. limit < length bytes)

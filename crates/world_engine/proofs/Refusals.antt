@@ -15,9 +15,9 @@ use Rattle.world_engine.specs.Runs.{IsFaulty, IsRefusedFile, IsRefusedMesh}
 refused_file : (text : Vec ℕ Global) (file : Option (List ℕ)) → IsLoadedFile MOST_BYTES (Whole text) file → IsRefusedFile file → IsFaulty (mesh_of UNIT text.items)
 refused_file text None loaded refused = absurd loaded
 refused_file text (Some file) loaded refused = elim refused [
-    | inl long ↦ absurd (omega (arith, long, loaded.1))
-    | inr faulty ↦ subst (λ t. IsFaulty (mesh_of UNIT t)) (sym loaded.0) faulty
-  ]
+  | inl long ↦ absurd (omega (arith, long, loaded.1))
+  | inr faulty ↦ subst (λ t. IsFaulty (mesh_of UNIT t)) (sym loaded.0) faulty
+]
 
 -- and so has the named mesh
 pub refused_is_faulty : (files : Option Files) (named : Option (List ℕ)) (name : List ℕ) (loaded : Loaded) (text : Vec ℕ Global) → loaded ≡ Whole text → Some name ≡ named

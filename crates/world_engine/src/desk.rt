@@ -1,14 +1,12 @@
 //! Who answers a run's script: the world, with what the run has to remember between lines.
 
-use std::alloc::Global;
-
-use outside::Memory;
-use streams::Answerer;
-
 use crate::lines::read_line;
 use crate::replies::{is_refused, reply_text};
 use crate::reply::Reply;
 use crate::world::World;
+use outside::Memory;
+use std::alloc::Global;
+use streams::Answerer;
 
 /// A world that is asked by a script.
 #[derive(Drop)]
@@ -22,6 +20,7 @@ impl Answerer for Desk {
     ghost use Rattle.world_engine.specs.Desks.{desk_text, desk_after};
 
     ghost text = { desk_text };
+
     ghost after = { desk_after };
 
     fn answer(&mut self, alloc: Global, number: u32, line: &[u8]) -> Result<Vec<u8>, Memory> {

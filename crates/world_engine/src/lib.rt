@@ -19,3 +19,6 @@ mod world;
 
 pub use runs::run;
 pub use status::Status;
+
+#[cfg(test)]
+mod tests;

@@ -3,11 +3,10 @@
 ghost use Rattle.std.specs.Prelude.{◌≡◌, ◌≤◌, Ok, MatchOption};
 ghost use Rattle.world_engine.specs.Asks.{ask_of, words_ask, around_of, corner_of, reach_of, in_reach, starts_comment};
 
-use fixed_box::{Box3, Point, UNIT_MAX};
-use text_words::{Words, grid_steps, signed_number};
-
 use crate::ask::{Ask, LineFault};
 use crate::limits::{CORNER_DIGITS, LINE_MOST, REACH};
+use fixed_box::{Box3, Point, UNIT_MAX};
+use text_words::{Words, grid_steps, signed_number};
 
 /// What a line asks, with `unit` grid steps to each unit of its coordinates.
 pub fn read_line(line: &[u8], unit: u32) -> Result<Ask, LineFault>

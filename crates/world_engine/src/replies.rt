@@ -4,13 +4,11 @@ ghost use Rattle.std.specs.Prelude.{◌≡◌, ◌++◌, IfOk, OnOk, length, cod
 ghost use Rattle.obj_text.specs.Texts.{FaultyLine};
 ghost use Rattle.world_engine.specs.Replies.{reply_text, refusal_text, fault_text, why_text, spaced, listed, is_refused};
 
-use std::alloc::{AllocError, Global};
-
-use obj_text::Why;
-
 use crate::ask::LineFault;
 use crate::numbers::Numbers;
 use crate::reply::Reply;
+use obj_text::Why;
+use std::alloc::{AllocError, Global};
 
 /// The reply to the line of this number, with its line feed; nothing where the line asks nothing.
 pub fn reply_text(alloc: Global, number: u32, reply: &Reply) -> Result<Vec<u8>, AllocError>

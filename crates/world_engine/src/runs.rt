@@ -8,17 +8,15 @@ ghost use Rattle.world_engine.specs.Words.{mesh_name, texts_of};
 ghost use Rattle.world_engine.specs.Outputs.{output_of};
 ghost use Rattle.world_engine.specs.Runs.{Fulfils, IsComplete, IsAbsentMesh, MeshIs, IsRefusedFile, IsRefusedMesh, world_of_name, replies_to_ended, IsAnswered, IsUntouched};
 
-use std::alloc::Global;
-use std::thread::Threads;
-
-use obj_text::MOST_BYTES;
-use outside::{Gate, Shelf, Sink, Source};
-use streams::{LoadFault, Loaded, fetch_all};
-
 use crate::limits::SCRIPT_MOST;
 use crate::stages::{answer_mesh, say};
 use crate::status::Status;
 use crate::words::mesh_name;
+use obj_text::MOST_BYTES;
+use outside::{Gate, Shelf, Sink, Source};
+use std::alloc::Global;
+use std::thread::Threads;
+use streams::{LoadFault, Loaded, fetch_all};
 
 /// Does all that the program does: reads the words, fetches the mesh that they name, and answers the script line by
 /// line, each reply written before the next line is answered.
@@ -30,7 +28,15 @@ use crate::words::mesh_name;
 ///
 /// What is written is a function of words, files and script alone (`specs/Outputs`). A device that fails, or want of
 /// memory, ends the run at once; what was written is then a front of that text.
-pub fn run<R: Threads + Sync, H: Shelf, S: Source, K: Sink, G: Gate>(_rt: &R, alloc: Global, words: &[String], shelf: &mut H, script: &mut S, out: &mut K, _gate: &G) -> Status
+pub fn run<R: Threads + Sync, H: Shelf, S: Source, K: Sink, G: Gate>(
+    _rt: &R,
+    alloc: Global,
+    words: &[String],
+    shelf: &mut H,
+    script: &mut S,
+    out: &mut K,
+    _gate: &G,
+) -> Status
     // The headline: as far as the devices tell what the output depends on, the run writes exactly the defined output,
     // with its status; or it stops with another status after a front of it.
     ensures output { IfSome (output_of (texts_of words.now) (H.holds shelf.old) (S.left script.old)) (λ output.
@@ -73,7 +79,13 @@ pub fn run<R: Threads + Sync, H: Shelf, S: Source, K: Sink, G: Gate>(_rt: &R, al
 }
 
 /// Does all that the program does; `run` says what follows from it.
-fn run_words<H: Shelf, S: Source, K: Sink>(alloc: Global, words: &[String], shelf: &mut H, script: &mut S, out: &mut K) -> Status
+fn run_words<H: Shelf, S: Source, K: Sink>(
+    alloc: Global,
+    words: &[String],
+    shelf: &mut H,
+    script: &mut S,
+    out: &mut K,
+) -> Status
     ensures output { IfSome (output_of (texts_of words.now) (H.holds shelf.old) (S.left script.old)) (λ output. Fulfils output result (K.written out.old) (K.written out.new)) }
     ensures usage { result ≡ Status.Usage → mesh_name (texts_of words.now) ≡ None }
     ensures mesh { result ≡ Status.MeshRefused → MeshIs (H.holds shelf.old) (mesh_name (texts_of words.now)) IsRefusedFile }

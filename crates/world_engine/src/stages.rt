@@ -10,17 +10,15 @@ ghost use Rattle.world_engine.specs.Replies.{refusal_text};
 ghost use Rattle.world_engine.specs.Outputs.{script_output, mesh_output, says, status_of};
 ghost use Rattle.world_engine.specs.Runs.{Fulfils, IsFaulty, world_in, replies_to_ended, IsAnswered, IsUntouched};
 
-use std::alloc::Global;
-
-use obj_text::{MOST_BYTES, Mesh, MeshFault, Why, read_mesh};
-use outside::{Sink, Source};
-use streams::{Ended, Stop, answer_lines, write_all};
-
 use crate::desk::Desk;
 use crate::limits::{SCRIPT_MOST, UNIT};
 use crate::replies::refusal_text;
 use crate::status::Status;
 use crate::world::World;
+use obj_text::{MOST_BYTES, Mesh, MeshFault, Why, read_mesh};
+use outside::{Sink, Source};
+use std::alloc::Global;
+use streams::{Ended, Stop, answer_lines, write_all};
 
 /// Writes a text, and answers the status, or that the sink failed.
 pub fn say<K: Sink>(out: &mut K, text: &[u8], status: Status) -> Status
@@ -46,7 +44,12 @@ fn status_of(refused: bool) -> Status
 }
 
 /// Answers the script of a world.
-fn answer_script<S: Source, K: Sink>(alloc: Global, world: World, script: &mut S, out: &mut K) -> Status
+fn answer_script<S: Source, K: Sink>(
+    alloc: Global,
+    world: World,
+    script: &mut S,
+    out: &mut K,
+) -> Status
     ensures output { IfSome (S.left script.old) (λ bytes. Fulfils (script_output UNIT world bytes) result (K.written out.old) (K.written out.new)) }
     ensures usage { result ≢ Status.Usage }
     ensures mesh { result ≢ Status.MeshRefused }
@@ -85,7 +88,12 @@ fn open_mesh(alloc: Global, text: Vec<u8>) -> Result<Mesh, MeshFault>
 }
 
 /// Opens the world of a mesh text and answers the script in it.
-pub fn answer_mesh<S: Source, K: Sink>(alloc: Global, text: Vec<u8>, script: &mut S, out: &mut K) -> Status
+pub fn answer_mesh<S: Source, K: Sink>(
+    alloc: Global,
+    text: Vec<u8>,
+    script: &mut S,
+    out: &mut K,
+) -> Status
     requires { length text.items ≤ MOST_BYTES }
     ensures output { IfSome (mesh_output (mesh_of UNIT text.items) (S.left script.old)) (λ output. Fulfils output result (K.written out.old) (K.written out.new)) }
     ensures usage { result ≢ Status.Usage }

@@ -5,15 +5,13 @@ ghost use Rattle.fixed_box.specs.Extent.{tri_box};
 ghost use Rattle.obj_text.specs.Meshes.{IsFaceOf};
 ghost use Rattle.world_engine.specs.Worlds.{tri_of, overlaps_from};
 
-use std::alloc::{AllocError, Global};
-use std::marker::Model;
-
-use fixed_box::{Box3, Point, Tri, box_of, meets};
-use obj_text::{Face, MOST_FACES, Mesh};
-
 use crate::ask::Ask;
 use crate::numbers::Numbers;
 use crate::reply::Reply;
+use fixed_box::{Box3, Point, Tri, box_of, meets};
+use obj_text::{Face, MOST_FACES, Mesh};
+use std::alloc::{AllocError, Global};
+use std::marker::Model;
 
 /// A world. Contracts see it as its state.
 #[derive(Drop)]

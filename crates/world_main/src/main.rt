@@ -4,12 +4,10 @@
 //! and what the exit status means.
 #![tactic(auto)]
 
-use std::env;
-use std::io;
+use outside::{FileShelf, Memory, OpenGate, StdSink, StdSource};
 use std::process::ExitCode;
 use std::rt::Env;
-
-use outside::{FileShelf, Memory, OpenGate, StdSink, StdSource};
+use std::{env, io};
 use world_engine::{Status, run};
 
 /// The words after the program's name. Words that are not all UTF-8 are none that the program accepts, as no word is.
@@ -30,7 +28,15 @@ fn main(rt: HostRuntime) -> ExitCode {
             let mut shelf = FileShelf::new(&rt);
             let mut script = StdSource::new(&rt);
             let mut out = StdSink::new(&rt);
-            run(&rt, rt.alloc(), &words, &mut shelf, &mut script, &mut out, &OpenGate)
+            run(
+                &rt,
+                rt.alloc(),
+                &words,
+                &mut shelf,
+                &mut script,
+                &mut out,
+                &OpenGate,
+            )
         }
         Err(Memory) => Status::Memory,
     };

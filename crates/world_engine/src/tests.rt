@@ -1,0 +1,337 @@
+//! Whole runs over devices in memory: worked scripts, failing devices, and the limits of mesh and script.
+
+ghost use Rattle.std.specs.Prelude.{◌≤◌, length};
+
+use crate::{Status, run};
+use outside::{Failed, MemShelf, MemSink, MemSource, Name, OpenGate, Shelf, Source};
+use std::process::Abort;
+use std::test::Fail;
+use std::thread::Threads;
+
+/// A triangle of four units a side, as a mesh text of 32 bytes.
+const TRIANGLE: &[u8] = b"v 0 0 0\nv 4 0 0\nv 0 4 0\nf 1 2 3\n";
+
+/// A box that touches the triangle's box and not the triangle, as a script line.
+const TOUCHING: &[u8] = b"box 4 4 0 9 9 0\n";
+
+/// How a run's devices give and take: how many bytes at a time, and at which calls they fail.
+#[derive(Clone, Copy)]
+struct Devices {
+    mesh_piece: usize,
+    mesh_fail: u64,
+    script_piece: usize,
+    script_fail: u64,
+    out_piece: usize,
+    out_fail: u64,
+}
+
+/// Devices that move up to so many bytes at a time and do not fail.
+fn in_pieces(piece: usize) -> Devices {
+    Devices {
+        mesh_piece: piece,
+        mesh_fail: 0,
+        script_piece: piece,
+        script_fail: 0,
+        out_piece: piece,
+        out_fail: 0,
+    }
+}
+
+/// Runs the word `level.obj` over a shelf that holds the mesh under that name, and compares status and output.
+fn comes_to<R: Threads + Sync + Abort + AllocGlobal>(
+    rt: &R,
+    mesh: &[u8],
+    script: &[u8],
+    devices: &Devices,
+    status: Status,
+    output: &[u8],
+    name: &str,
+) -> Result<(), Fail> {
+    let alloc = rt.alloc();
+    let words = vec![in alloc; String::from_str(alloc, "level.obj")?]?;
+    let mut shelf = MemShelf::new(
+        Name::new(b"level.obj".to_vec(alloc)?),
+        mesh.to_vec(alloc)?,
+        devices.mesh_piece.max(1),
+        vec![in alloc; devices.mesh_fail]?,
+    );
+    let mut source = MemSource::new(
+        script.to_vec(alloc)?,
+        devices.script_piece.max(1),
+        vec![in alloc; devices.script_fail]?,
+    );
+    let mut sink = MemSink::new(
+        alloc,
+        4096,
+        devices.out_piece.max(1),
+        vec![in alloc; devices.out_fail]?,
+    )
+    .map_err(|_| "no room for the output")?;
+    let got = run(
+        rt,
+        alloc,
+        &words,
+        &mut shelf,
+        &mut source,
+        &mut sink,
+        &OpenGate,
+    );
+    assert!(rt; got == status, "status of {name}");
+    assert!(rt; sink.bytes() == output, "output of {name}");
+    Ok(())
+}
+
+#[test]
+fn worked_scripts_are_answered_byte_for_byte(rt: HostRuntime) -> Result<(), Fail> {
+    let rows: [(&str, &[u8], &[u8], Status, &[u8]); 11] = [
+        (
+            "boxes touch where triangles do not",
+            TRIANGLE,
+            TOUCHING,
+            Status::Done,
+            b"overlaps 1: 1\n",
+        ),
+        (
+            "a word that is not known",
+            TRIANGLE,
+            b"seg 1 1 -1 1 1 1\n",
+            Status::LinesRefused,
+            b"line 1: unknown word\n",
+        ),
+        (
+            "a line of another form in the mesh",
+            b"v 0 0 0\nv 4 0 0\nv 0 4 0\nf 1 2 3\nvt 0 0\n",
+            b"",
+            Status::MeshRefused,
+            b"mesh line 5: form not read\n",
+        ),
+        (
+            "a face before its vertices",
+            b"f 1 2 3\nv 0 0 0\nv 4 0 0\nv 0 4 0\n",
+            b"box 0 0 0 0 0 0\n",
+            Status::Done,
+            b"overlaps 1: 1\n",
+        ),
+        (
+            "an empty mesh",
+            b"",
+            b"box 0 0 0 1 1 1\n",
+            Status::Done,
+            b"overlaps 0\n",
+        ),
+        ("an empty script", TRIANGLE, b"", Status::Done, b""),
+        (
+            "an unfinished last line",
+            TRIANGLE,
+            b"box 4 4 0 9 9 0",
+            Status::Done,
+            b"overlaps 1: 1\n",
+        ),
+        (
+            "a refused line does not stop the script",
+            TRIANGLE,
+            b"frob\n\n# box\nbox 5 5 0 9 9 0\n",
+            Status::LinesRefused,
+            b"line 1: unknown word\noverlaps 0\n",
+        ),
+        (
+            "corners in any order",
+            TRIANGLE,
+            b"box 9 9 0 4 4 0\n",
+            Status::Done,
+            b"overlaps 1: 1\n",
+        ),
+        (
+            "a triangle named twice",
+            b"v 0 0 0\nv 4 0 0\nv 0 4 0\nf 1 2 3\nf 1 2 3\n",
+            b"box 4 4 0 9 9 0\n",
+            Status::Done,
+            b"overlaps 2: 1 2\n",
+        ),
+        (
+            "a box far outside",
+            TRIANGLE,
+            b"box -9999999 0 0 9999999 0 0\n",
+            Status::Done,
+            b"overlaps 1: 1\n",
+        ),
+    ];
+    for (name, mesh, script, status, output) in rows {
+        for piece in [1, 7, 4096] {
+            comes_to(&rt, mesh, script, &in_pieces(piece), status, output, name)?;
+        }
+    }
+    Ok(())
+}
+
+#[test]
+fn a_failing_device_ends_the_run_where_it_fails(rt: HostRuntime) -> Result<(), Fail> {
+    let twice = b"box 4 4 0 9 9 0\nbox 4 4 0 9 9 0\n";
+    let third_fetch = Devices {
+        mesh_piece: 8,
+        mesh_fail: 3,
+        ..in_pieces(8)
+    };
+    comes_to(
+        &rt,
+        TRIANGLE,
+        twice,
+        &third_fetch,
+        Status::ReadFault,
+        b"",
+        "the third fetch",
+    )?;
+    let fourth_write = Devices {
+        out_piece: 8,
+        out_fail: 4,
+        ..in_pieces(8)
+    };
+    comes_to(
+        &rt,
+        TRIANGLE,
+        twice,
+        &fourth_write,
+        Status::WriteFault,
+        b"overlaps 1: 1\noverlaps",
+        "the fourth write",
+    )?;
+    let second_read = Devices {
+        script_piece: 16,
+        script_fail: 2,
+        ..in_pieces(16)
+    };
+    comes_to(
+        &rt,
+        TRIANGLE,
+        twice,
+        &second_read,
+        Status::ReadFault,
+        b"overlaps 1: 1\n",
+        "the second read",
+    )?;
+    Ok(())
+}
+
+/// A file or a script of one byte many times, made as it is asked for.
+#[derive(Drop)]
+struct Repeated {
+    byte: u8,
+    left: u64,
+}
+
+/// Fills the front of a buffer with as many bytes as are left.
+fn fill(buf: &mut [u8], byte: u8, left: u64) -> usize
+    ensures within { result ≤ length buf.new }
+    ensures few { result ≤ left }
+{
+    let count = left.min(buf.len() as u64) as usize;
+    for b in buf[..count].iter_mut() {
+        *b = byte;
+    }
+    count
+}
+
+impl Shelf for Repeated {
+    ghost use Rattle.std.specs.Prelude.{None};
+
+    ghost holds = { λ _. None };
+
+    ghost faults = { λ _. 0 };
+
+    fn fetch(&mut self, _name: &str, at: u64, buf: &mut [u8]) -> Result<usize, Failed> {
+        Ok(fill(buf, self.byte, self.left.saturating_sub(at)))
+    }
+}
+
+impl Source for Repeated {
+    ghost use Rattle.std.specs.Prelude.{None};
+
+    ghost left = { λ _. None };
+
+    ghost faults = { λ _. 0 };
+
+    fn read(&mut self, buf: &mut [u8]) -> Result<usize, Failed> {
+        let count = fill(buf, self.byte, self.left);
+        self.left -= count as u64;
+        Ok(count)
+    }
+}
+
+/// Runs over a mesh and a script of one byte many times, and compares status, output and what is left of the script.
+fn many_come_to<R: Threads + Sync + Abort + AllocGlobal>(
+    rt: &R,
+    mesh: u64,
+    script: u64,
+    status: Status,
+    output: &[u8],
+    left: u64,
+    name: &str,
+) -> Result<(), Fail> {
+    let alloc = rt.alloc();
+    let words = vec![in alloc; String::from_str(alloc, "level.obj")?]?;
+    let mut shelf = Repeated {
+        byte: b'#',
+        left: mesh,
+    };
+    let mut source = Repeated {
+        byte: b'#',
+        left: script,
+    };
+    let mut sink = MemSink::new(alloc, 4096, 4096, Vec::new(alloc)).map_err(
+        |_| "no room for the output",
+    )?;
+    let got = run(
+        rt,
+        alloc,
+        &words,
+        &mut shelf,
+        &mut source,
+        &mut sink,
+        &OpenGate,
+    );
+    assert!(rt; got == status, "status of {name}");
+    assert!(rt; sink.bytes() == output, "output of {name}");
+    assert_eq!(rt; source.left, left, "rest of {name}");
+    Ok(())
+}
+
+#[test]
+fn mesh_and_script_have_their_limits_to_the_byte(rt: HostRuntime) -> Result<(), Fail> {
+    many_come_to(
+        &rt,
+        268_435_457,
+        9,
+        Status::MeshRefused,
+        b"mesh too long\n",
+        9,
+        "a mesh one byte too long",
+    )?;
+    many_come_to(
+        &rt,
+        268_435_456,
+        0,
+        Status::Done,
+        b"",
+        0,
+        "a mesh at its limit",
+    )?;
+    many_come_to(
+        &rt,
+        0,
+        16_777_300,
+        Status::LinesRefused,
+        b"script too long\n",
+        83,
+        "a script too long",
+    )?;
+    many_come_to(
+        &rt,
+        0,
+        16_777_216,
+        Status::LinesRefused,
+        b"line 1: unknown word\n",
+        0,
+        "a script at its limit",
+    )?;
+    Ok(())
+}
