@@ -1,0 +1,101 @@
+-- The relation on points, told by differences of points, and the determinants that solve it.
+use Rattle.std.proofs.Common.{◌≡◌, ℤ, pos, ◌+ℤ◌, ◌-ℤ◌, ◌*ℤ◌, neg_ℤ, arith}
+use Rattle.std.proofs.lemmas.Int.{ints}
+use Rattle.fixed_box.specs.declared.shapes.Point.{Point}
+use Rattle.fixed_box.specs.declared.shapes.Tri.{Tri}
+use Rattle.segment_hit.proofs.Integers.{parts, same_diff, to_diff, cancel, linear, neg-times, times-neg}
+use Rattle.segment_hit.proofs.Combinations.{Combines, cramer, time_is, second_is, third_is}
+use Rattle.segment_hit.specs.Vectors.{from_to}
+use Rattle.segment_hit.specs.Determinants.{IsInside, whole_of, time_of, second_of, third_of}
+use Rattle.segment_hit.specs.Meeting.{Weighs}
+use Rattle.segment_hit.specs.declared.vectors.Determinants.{Determinants}
+
+-- on one axis: weighed coordinates, and weighed differences from the first corner and from the start
+shifted : (p q a b c T u v w : ℤ) →
+    T *ℤ (q -ℤ p) +ℤ (u *ℤ a +ℤ v *ℤ b +ℤ w *ℤ c) ≡ ((u +ℤ v +ℤ w) *ℤ (a -ℤ p) +ℤ v *ℤ (b -ℤ a) +ℤ w *ℤ (c -ℤ a)) +ℤ ((u +ℤ v +ℤ w) *ℤ p +ℤ T *ℤ (q -ℤ p))
+shifted p q a b c T u v w = rw (← parts p, ← parts q, ← parts a, ← parts b, ← parts c, ← parts T, ← parts u, ← parts v, ← parts w)
+    (simp to_diff (same_diff _ _ _ _ (omega arith)))
+
+-- on one axis: from points to differences
+axis_in : (p q a b c T D u v w : ℤ) → u +ℤ v +ℤ w ≡ D →
+    D *ℤ p +ℤ T *ℤ (q -ℤ p) ≡ u *ℤ a +ℤ v *ℤ b +ℤ w *ℤ c → T *ℤ (q -ℤ p) ≡ D *ℤ (a -ℤ p) +ℤ v *ℤ (b -ℤ a) +ℤ w *ℤ (c -ℤ a)
+axis_in p q a b c T D u v w e h = cancel _ _ _ _ (rw (← e) (shifted p q a b c T u v w)) h
+
+-- on one axis: from differences to points
+axis_out : (p q a b c T D u v w : ℤ) → u +ℤ v +ℤ w ≡ D →
+    T *ℤ (q -ℤ p) ≡ D *ℤ (a -ℤ p) +ℤ v *ℤ (b -ℤ a) +ℤ w *ℤ (c -ℤ a) → D *ℤ p +ℤ T *ℤ (q -ℤ p) ≡ u *ℤ a +ℤ v *ℤ b +ℤ w *ℤ c
+axis_out p q a b c T D u v w e h =
+    let s : T *ℤ (q -ℤ p) +ℤ (u *ℤ a +ℤ v *ℤ b +ℤ w *ℤ c) ≡ (D *ℤ (a -ℤ p) +ℤ v *ℤ (b -ℤ a) +ℤ w *ℤ (c -ℤ a)) +ℤ (D *ℤ p +ℤ T *ℤ (q -ℤ p)) = rw (← e) (shifted p q a b c T u v w) in
+    omega (arith, linear)
+
+-- the relation by differences: T/D of the way is the first corner's difference and v and w times the sides
+abbrev pub Divides : Point → Point → Tri → (D T v w : ℤ) → Type 0
+Divides p q t D T v w = Combines D T v w (from_to p t.a) (from_to p q) (from_to t.a t.b) (from_to t.a t.c)
+
+-- weights that balance give a combination of the sides
+pub divides : (p q : Point) (t : Tri) (T D u v w : ℤ) → Weighs p q t T D u v w → Divides p q t D T v w
+divides p q t T D u v w h = record {
+  on_x = axis_in p.x q.x t.a.x t.b.x t.c.x T D u v w h.whole h.on_x;
+  on_y = axis_in p.y q.y t.a.y t.b.y t.c.y T D u v w h.whole h.on_y;
+  on_z = axis_in p.z q.z t.a.z t.b.z t.c.z T D u v w h.whole h.on_z;
+}
+
+-- and the determinants, where they pass the tests, are weights that balance
+pub weighs : (p q : Point) (t : Tri) (m : Determinants) → Divides p q t m.whole m.time m.second m.third → IsInside m → Weighs p q t m.time m.whole (m.whole -ℤ m.second -ℤ m.third) m.second m.third
+weighs p q t m h i =
+    let T = m.time in
+    let D = m.whole in
+    let v = m.second in
+    let w = m.third in
+    let e : D -ℤ v -ℤ w +ℤ v +ℤ w ≡ D = omega (arith, linear) in
+    record {
+      first = omega (arith, ints, i.first_weight);
+      second = i.second_weight;
+      third = i.third_weight;
+      whole = e;
+      on_x = axis_out p.x q.x t.a.x t.b.x t.c.x T D (D -ℤ v -ℤ w) v w e h.on_x;
+      on_y = axis_out p.y q.y t.a.y t.b.y t.c.y T D (D -ℤ v -ℤ w) v w e h.on_y;
+      on_z = axis_out p.z q.z t.a.z t.b.z t.c.z T D (D -ℤ v -ℤ w) v w e h.on_z;
+    }
+
+-- those of m are a combination, and the numbers of any other are in the same ratio
+pub record AreDeterminants (p q : Point) (t : Tri) (m : Determinants) : Type 0 where
+  pub combines : Divides p q t m.whole m.time m.second m.third
+  pub time_is : (D T v w : ℤ) → Divides p q t D T v w → T *ℤ m.whole ≡ D *ℤ m.time
+  pub second_is : (D T v w : ℤ) → Divides p q t D T v w → v *ℤ m.whole ≡ D *ℤ m.second
+  pub third_is : (D T v w : ℤ) → Divides p q t D T v w → w *ℤ m.whole ≡ D *ℤ m.third
+
+-- the determinants as `measure` gives them are such
+pub determinants : (p q : Point) (t : Tri) (m : Determinants) → m.whole ≡ whole_of p q t → m.time ≡ time_of p t → m.second ≡ second_of p q t → m.third ≡ third_of p q t → AreDeterminants p q t m
+determinants p q t m a b c e =
+    let r = from_to p t.a in
+    let d = from_to p q in
+    let f = from_to t.a t.b in
+    let g = from_to t.a t.c in
+    record {
+      combines = rw (a, b, c, e) (cramer r d f g);
+      time_is = λ D T v w h. rw (a, b) (time_is D T v w r d f g h);
+      second_is = λ D T v w h. rw (a, c) (second_is D T v w r d f g h);
+      third_is = λ D T v w h. rw (a, e) (third_is D T v w r d f g h);
+    }
+
+-- on one axis: a combination, negated
+axis_neg : (D T v w r d f g : ℤ) → T *ℤ d ≡ D *ℤ r +ℤ v *ℤ f +ℤ w *ℤ g → neg_ℤ T *ℤ d ≡ neg_ℤ D *ℤ r +ℤ neg_ℤ v *ℤ f +ℤ neg_ℤ w *ℤ g
+axis_neg D T v w r d f g e = omega (arith, linear, neg-times T d, neg-times D r, neg-times v f, neg-times w g)
+
+-- equal ratios, with the second one's parts negated
+both_neg : (T N D x : ℤ) → T *ℤ N ≡ D *ℤ x → T *ℤ neg_ℤ N ≡ D *ℤ neg_ℤ x
+both_neg T N D x e = omega (arith, linear, times-neg T N, times-neg D x)
+
+-- and so are their negations
+pub reversed : (p q : Point) (t : Tri) (m n : Determinants) → n.whole ≡ neg_ℤ m.whole → n.time ≡ neg_ℤ m.time → n.second ≡ neg_ℤ m.second → n.third ≡ neg_ℤ m.third → AreDeterminants p q t m → AreDeterminants p q t n
+reversed p q t m n a b c e h = record {
+  combines = rw (a, b, c, e) (record {
+    on_x = axis_neg m.whole m.time m.second m.third _ _ _ _ h.combines.on_x;
+    on_y = axis_neg m.whole m.time m.second m.third _ _ _ _ h.combines.on_y;
+    on_z = axis_neg m.whole m.time m.second m.third _ _ _ _ h.combines.on_z;
+  });
+  time_is = λ D T v w k. rw (a, b) (both_neg T m.whole D m.time (h.time_is D T v w k));
+  second_is = λ D T v w k. rw (a, c) (both_neg v m.whole D m.second (h.second_is D T v w k));
+  third_is = λ D T v w k. rw (a, e) (both_neg w m.whole D m.third (h.third_is D T v w k));
+}

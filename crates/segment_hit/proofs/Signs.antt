@@ -1,0 +1,40 @@
+-- Signs of products over the integers: from equal ratios to bounds, and the cancelling of factors.
+use Rattle.std.proofs.Common.{◌≡◌, ◌≢◌, ℕ, zero, suc, ℤ, pos, negsuc, ◌+ℤ◌, ◌-ℤ◌, ◌*ℤ◌, neg_ℤ, ◌≤ℤ◌, ◌<ℤ◌, arith, refl}
+use Rattle.std.proofs.lemmas.Int.{ints}
+use Rattle.segment_hit.proofs.Integers.{linear, sub-times, times-sub, times-neg, times_comm}
+
+-- a product by one
+times-one : (n : ℕ) → pos n *ℤ pos 1 ≡ pos n
+times-one n = omega (arith, ints)
+
+-- where T/D = x/N with D and N above 0, x is not below 0 if T is not
+pub not_negative : (D N T x : ℤ) → pos 0 <ℤ D → pos 0 <ℤ N → pos 0 ≤ℤ T → T *ℤ N ≡ D *ℤ x → pos 0 ≤ℤ x
+not_negative D N T (pos k) d n t e = omega (arith, ints)
+not_negative (pos zero) N T (negsuc k) d n t e = absurd (omega (arith, ints))
+not_negative (negsuc m) N T (negsuc k) d n t e = absurd (omega (arith, ints))
+not_negative (pos (suc m)) (negsuc i) T (negsuc k) d n t e = absurd (omega (arith, ints))
+not_negative (pos (suc m)) (pos i) (negsuc j) (negsuc k) d n t e = absurd (omega (arith, ints))
+not_negative (pos (suc m)) (pos i) (pos j) (negsuc k) d n t e = absurd (omega (arith, ints))
+
+-- and x is at most N if T is at most D
+pub at_most : (D N T x : ℤ) → pos 0 <ℤ D → pos 0 <ℤ N → T ≤ℤ D → T *ℤ N ≡ D *ℤ x → x ≤ℤ N
+at_most D N T x d n t e =
+    let h : pos 0 ≤ℤ (D -ℤ T) = omega (arith, ints) in
+    let g : (D -ℤ T) *ℤ N ≡ D *ℤ (N -ℤ x) = omega (arith, linear, sub-times D T N, times-sub D N x) in
+    let k : pos 0 ≤ℤ (N -ℤ x) = not_negative D N (D -ℤ T) (N -ℤ x) d n h g in
+    omega (arith, ints)
+
+-- a factor above 0 cancels
+pub cancel_right : (x y N : ℤ) → pos 0 <ℤ N → x *ℤ N ≡ y *ℤ N → x ≡ y
+cancel_right x y N n e =
+    let one : pos 0 <ℤ pos 1 = omega (arith, ints) in
+    let a : pos 0 ≤ℤ (x -ℤ y) = not_negative N (pos 1) (pos 0) (x -ℤ y) n one (omega (arith, ints)) (omega (arith, linear, times-sub N x y, times_comm x N, times_comm y N, times-one 0)) in
+    let b : pos 0 ≤ℤ (y -ℤ x) = not_negative N (pos 1) (pos 0) (y -ℤ x) n one (omega (arith, ints)) (omega (arith, linear, times-sub N y x, times_comm x N, times_comm y N, times-one 0)) in
+    omega (arith, ints)
+
+-- a factor that is not 0 cancels
+pub cancel_nonzero : (x y N : ℤ) → N ≢ pos 0 → x *ℤ N ≡ y *ℤ N → x ≡ y
+cancel_nonzero x y (pos zero) n e = absurd (n refl)
+cancel_nonzero x y (pos (suc k)) n e = cancel_right x y (pos (suc k)) (omega (arith, ints)) e
+cancel_nonzero x y (negsuc k) n e =
+    cancel_right x y (neg_ℤ (negsuc k)) (omega (arith, ints)) (omega (arith, linear, times-neg x (negsuc k), times-neg y (negsuc k)))

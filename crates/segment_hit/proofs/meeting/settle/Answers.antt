@@ -1,0 +1,24 @@
+use Rattle.std.proofs.Common.{◌≡◌, ◌≤ℤ◌, ℤ, pos, negsuc, refl, arith, to_z, of_z, w64, unsigned_abs, FitsSigned}
+use Rattle.std.proofs.lemmas.Int.{ints, to_z-of_z, fits_signed_from_abs}
+use Rattle.segment_hit.proofs.meeting.settle.Goals as goal
+
+of_abs : (z : ℤ) → pos 0 ≤ℤ z → pos (unsigned_abs z) ≡ z
+of_abs (pos n) h = refl
+of_abs (negsuc n) h = absurd (omega (arith, ints))
+
+back : (z : ℤ) → FitsSigned w64 z → pos 0 ≤ℤ z → pos (unsigned_abs (to_z w64 (of_z w64 z))) ≡ z
+back z f h = rw (to_z-of_z w64 z f) (of_abs z h)
+
+pub returns-clause-found : goal.returns-clause-found
+returns-clause-found c =
+    let time : pos 0 ≤ℤ c.args.m.now.time = omega (arith, ints) in
+    let whole : pos 0 ≤ℤ c.args.m.now.whole = omega (arith, ints) in (
+      record {
+        begun = time;
+        ended = omega (arith, ints);
+        second_weight = omega (arith, ints);
+        third_weight = omega (arith, ints);
+        first_weight = omega (arith, ints);
+      },
+      rw (back c.args.m.now.time (fits_signed_from_abs w64 c.args.m.now.time (omega arith)) time, back c.args.m.now.whole (fits_signed_from_abs w64 c.args.m.now.whole (omega arith)) whole) at c.lowest.ensures,
+    )

@@ -1,0 +1,40 @@
+-- The determinants that `hit` works out, and the tests that it makes on them. No public clause cites this module.
+use Rattle.std.specs.Prelude.{ℤ, pos, ◌+ℤ◌, ◌≤ℤ◌, neg_ℤ}
+use Rattle.fixed_box.specs.declared.shapes.Point.{Point}
+use Rattle.fixed_box.specs.declared.shapes.Tri.{Tri}
+use Rattle.segment_hit.specs.Vectors.{Vector, from_to, dot, cross, normal}
+use Rattle.segment_hit.specs.declared.vectors.Arrow.{Arrow}
+use Rattle.segment_hit.specs.declared.vectors.Area.{Area}
+use Rattle.segment_hit.specs.declared.vectors.Determinants.{Determinants}
+
+-- a difference as a vector
+abbrev pub vector_of : Arrow → Vector
+vector_of a = record { x = a.x; y = a.y; z = a.z }
+
+-- a cross product as a vector
+abbrev pub area_of : Area → Vector
+area_of a = record { x = a.x; y = a.y; z = a.z }
+
+-- (q - p) . n: how far the way from p to q crosses the plane
+abbrev pub whole_of : Point → Point → Tri → ℤ
+whole_of p q t = dot (from_to p q) (normal t)
+
+-- (a - p) . n: how much of that lies before the plane
+abbrev pub time_of : Point → Tri → ℤ
+time_of p t = dot (from_to p t.a) (normal t)
+
+-- (c - a) . ((a - p) x (q - p)): the weight of the second corner
+abbrev pub second_of : Point → Point → Tri → ℤ
+second_of p q t = dot (from_to t.a t.c) (cross (from_to p t.a) (from_to p q))
+
+-- -(b - a) . ((a - p) x (q - p)): the weight of the third corner
+abbrev pub third_of : Point → Point → Tri → ℤ
+third_of p q t = neg_ℤ (dot (from_to t.a t.b) (cross (from_to p t.a) (from_to p q)))
+
+-- the time is from 0 to the whole, and no corner has a weight below 0
+pub record IsInside (m : Determinants) : Type 0 where
+  pub begun : pos 0 ≤ℤ m.time
+  pub ended : m.time ≤ℤ m.whole
+  pub second_weight : pos 0 ≤ℤ m.second
+  pub third_weight : pos 0 ≤ℤ m.third
+  pub first_weight : (m.second +ℤ m.third) ≤ℤ m.whole

@@ -1,0 +1,4 @@
+pub mod Vectors
+pub mod Meeting
+pub mod FractionOrder
+pub mod Determinants
