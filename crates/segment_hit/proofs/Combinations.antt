@@ -11,11 +11,13 @@ pub record Combines (D T v w : ℤ) (r d f g : Vector) : Type 0 where
   pub on_z : T *ℤ d.z ≡ D *ℤ r.z +ℤ v *ℤ f.z +ℤ w *ℤ g.z
 
 -- the dot product of both sides with a vector
-pub dotted : (D T v w : ℤ) (r d f g k : Vector) → Combines D T v w r d f g → T *ℤ dot d k ≡ D *ℤ dot r k +ℤ v *ℤ dot f k +ℤ w *ℤ dot g k
+pub dotted : (D T v w : ℤ) (r d f g k : Vector) → Combines D T v w r d f g
+    → T *ℤ dot d k ≡ D *ℤ dot r k +ℤ v *ℤ dot f k +ℤ w *ℤ dot g k
 dotted D T v w r d f g k e = dot-scaled T d k ∙ rw (e.on_x, e.on_y, e.on_z) (dot-sum D v w r f g k)
 
 -- Cramer's rule: the determinants are such a combination
-pub cramer : (r d f g : Vector) → Combines (dot d (cross f g)) (dot r (cross f g)) (dot g (cross r d)) (neg_ℤ (dot f (cross r d))) r d f g
+pub cramer : (r d f g : Vector)
+    → Combines (dot d (cross f g)) (dot r (cross f g)) (dot g (cross r d)) (neg_ℤ (dot f (cross r d))) r d f g
 cramer r d f g = record {
   on_x = omega (arith, linear, bac_x (cross f g) r d, cab_x f g (cross r d), neg-times (dot f (cross r d)) g.x);
   on_y = omega (arith, linear, bac_y (cross f g) r d, cab_y f g (cross r d), neg-times (dot f (cross r d)) g.y);
@@ -23,21 +25,24 @@ cramer r d f g = record {
 }
 
 -- in any such combination, T is to D as the first determinant is to the whole
-pub time_is : (D T v w : ℤ) (r d f g : Vector) → Combines D T v w r d f g → T *ℤ dot d (cross f g) ≡ D *ℤ dot r (cross f g)
+pub time_is : (D T v w : ℤ) (r d f g : Vector) → Combines D T v w r d f g
+    → T *ℤ dot d (cross f g) ≡ D *ℤ dot r (cross f g)
 time_is D T v w r d f g h =
     let e = dotted D T v w r d f g (cross f g) h in
     let e' = rw (cross_left f g, cross_right f g) at e in
     omega (arith, linear, e', times-zero v, times-zero w)
 
 -- v is to D as the second determinant is to the whole
-pub second_is : (D T v w : ℤ) (r d f g : Vector) → Combines D T v w r d f g → v *ℤ dot d (cross f g) ≡ D *ℤ dot g (cross r d)
+pub second_is : (D T v w : ℤ) (r d f g : Vector) → Combines D T v w r d f g
+    → v *ℤ dot d (cross f g) ≡ D *ℤ dot g (cross r d)
 second_is D T v w r d f g h =
     let e = dotted D T v w r d f g (cross d g) h in
     let e' = rw (cross_left d g, cross_right d g, turned r d g, swapped f d g) at e in
     omega (arith, linear, e', times-zero T, times-zero w, times-neg v (dot d (cross f g)))
 
 -- w is to D as the third determinant is to the whole
-pub third_is : (D T v w : ℤ) (r d f g : Vector) → Combines D T v w r d f g → w *ℤ dot d (cross f g) ≡ D *ℤ neg_ℤ (dot f (cross r d))
+pub third_is : (D T v w : ℤ) (r d f g : Vector) → Combines D T v w r d f g
+    → w *ℤ dot d (cross f g) ≡ D *ℤ neg_ℤ (dot f (cross r d))
 third_is D T v w r d f g h =
     let e = dotted D T v w r d f g (cross d f) h in
     let e' = rw (cross_left d f, cross_right d f, turned r d f, turned g d f, turned f g d) at e in

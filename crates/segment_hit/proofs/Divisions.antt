@@ -12,20 +12,26 @@ use Rattle.segment_hit.specs.declared.vectors.Determinants.{Determinants}
 
 -- on one axis: weighed coordinates, and weighed differences from the first corner and from the start
 shifted : (p q a b c T u v w : ℤ) →
-    T *ℤ (q -ℤ p) +ℤ (u *ℤ a +ℤ v *ℤ b +ℤ w *ℤ c) ≡ ((u +ℤ v +ℤ w) *ℤ (a -ℤ p) +ℤ v *ℤ (b -ℤ a) +ℤ w *ℤ (c -ℤ a)) +ℤ ((u +ℤ v +ℤ w) *ℤ p +ℤ T *ℤ (q -ℤ p))
-shifted p q a b c T u v w = rw (← parts p, ← parts q, ← parts a, ← parts b, ← parts c, ← parts T, ← parts u, ← parts v, ← parts w)
+    T *ℤ (q -ℤ p) +ℤ (u *ℤ a +ℤ v *ℤ b +ℤ w *ℤ c)
+    ≡ ((u +ℤ v +ℤ w) *ℤ (a -ℤ p) +ℤ v *ℤ (b -ℤ a) +ℤ w *ℤ (c -ℤ a)) +ℤ ((u +ℤ v +ℤ w) *ℤ p +ℤ T *ℤ (q -ℤ p))
+shifted p q a b c T u v w =
+    rw (← parts p, ← parts q, ← parts a, ← parts b, ← parts c, ← parts T, ← parts u, ← parts v, ← parts w)
     (simp to_diff (same_diff _ _ _ _ (omega arith)))
 
 -- on one axis: from points to differences
 axis_in : (p q a b c T D u v w : ℤ) → u +ℤ v +ℤ w ≡ D →
-    D *ℤ p +ℤ T *ℤ (q -ℤ p) ≡ u *ℤ a +ℤ v *ℤ b +ℤ w *ℤ c → T *ℤ (q -ℤ p) ≡ D *ℤ (a -ℤ p) +ℤ v *ℤ (b -ℤ a) +ℤ w *ℤ (c -ℤ a)
+    D *ℤ p +ℤ T *ℤ (q -ℤ p) ≡ u *ℤ a +ℤ v *ℤ b +ℤ w *ℤ c
+    → T *ℤ (q -ℤ p) ≡ D *ℤ (a -ℤ p) +ℤ v *ℤ (b -ℤ a) +ℤ w *ℤ (c -ℤ a)
 axis_in p q a b c T D u v w e h = cancel _ _ _ _ (rw (← e) (shifted p q a b c T u v w)) h
 
 -- on one axis: from differences to points
 axis_out : (p q a b c T D u v w : ℤ) → u +ℤ v +ℤ w ≡ D →
-    T *ℤ (q -ℤ p) ≡ D *ℤ (a -ℤ p) +ℤ v *ℤ (b -ℤ a) +ℤ w *ℤ (c -ℤ a) → D *ℤ p +ℤ T *ℤ (q -ℤ p) ≡ u *ℤ a +ℤ v *ℤ b +ℤ w *ℤ c
+    T *ℤ (q -ℤ p) ≡ D *ℤ (a -ℤ p) +ℤ v *ℤ (b -ℤ a) +ℤ w *ℤ (c -ℤ a)
+    → D *ℤ p +ℤ T *ℤ (q -ℤ p) ≡ u *ℤ a +ℤ v *ℤ b +ℤ w *ℤ c
 axis_out p q a b c T D u v w e h =
-    let s : T *ℤ (q -ℤ p) +ℤ (u *ℤ a +ℤ v *ℤ b +ℤ w *ℤ c) ≡ (D *ℤ (a -ℤ p) +ℤ v *ℤ (b -ℤ a) +ℤ w *ℤ (c -ℤ a)) +ℤ (D *ℤ p +ℤ T *ℤ (q -ℤ p)) = rw (← e) (shifted p q a b c T u v w) in
+    let s : T *ℤ (q -ℤ p) +ℤ (u *ℤ a +ℤ v *ℤ b +ℤ w *ℤ c)
+    ≡ (D *ℤ (a -ℤ p) +ℤ v *ℤ (b -ℤ a) +ℤ w *ℤ (c -ℤ a)) +ℤ (D *ℤ p +ℤ T *ℤ (q -ℤ p)) =
+    rw (← e) (shifted p q a b c T u v w) in
     omega (arith, linear)
 
 -- the relation by differences: T/D of the way is the first corner's difference and v and w times the sides
@@ -41,7 +47,8 @@ divides p q t T D u v w h = record {
 }
 
 -- and the determinants, where they pass the tests, are weights that balance
-pub weighs : (p q : Point) (t : Tri) (m : Determinants) → Divides p q t m.whole m.time m.second m.third → IsInside m → Weighs p q t m.time m.whole (m.whole -ℤ m.second -ℤ m.third) m.second m.third
+pub weighs : (p q : Point) (t : Tri) (m : Determinants) → Divides p q t m.whole m.time m.second m.third → IsInside m
+    → Weighs p q t m.time m.whole (m.whole -ℤ m.second -ℤ m.third) m.second m.third
 weighs p q t m h i =
     let T = m.time in
     let D = m.whole in
@@ -66,7 +73,8 @@ pub record AreDeterminants (p q : Point) (t : Tri) (m : Determinants) : Type 0 w
   pub third_is : (D T v w : ℤ) → Divides p q t D T v w → w *ℤ m.whole ≡ D *ℤ m.third
 
 -- the determinants as `measure` gives them are such
-pub determinants : (p q : Point) (t : Tri) (m : Determinants) → m.whole ≡ whole_of p q t → m.time ≡ time_of p t → m.second ≡ second_of p q t → m.third ≡ third_of p q t → AreDeterminants p q t m
+pub determinants : (p q : Point) (t : Tri) (m : Determinants) → m.whole ≡ whole_of p q t → m.time ≡ time_of p t
+    → m.second ≡ second_of p q t → m.third ≡ third_of p q t → AreDeterminants p q t m
 determinants p q t m a b c e =
     let r = from_to p t.a in
     let d = from_to p q in
@@ -80,7 +88,8 @@ determinants p q t m a b c e =
     }
 
 -- on one axis: a combination, negated
-axis_neg : (D T v w r d f g : ℤ) → T *ℤ d ≡ D *ℤ r +ℤ v *ℤ f +ℤ w *ℤ g → neg_ℤ T *ℤ d ≡ neg_ℤ D *ℤ r +ℤ neg_ℤ v *ℤ f +ℤ neg_ℤ w *ℤ g
+axis_neg : (D T v w r d f g : ℤ) → T *ℤ d ≡ D *ℤ r +ℤ v *ℤ f +ℤ w *ℤ g
+    → neg_ℤ T *ℤ d ≡ neg_ℤ D *ℤ r +ℤ neg_ℤ v *ℤ f +ℤ neg_ℤ w *ℤ g
 axis_neg D T v w r d f g e = omega (arith, linear, neg-times T d, neg-times D r, neg-times v f, neg-times w g)
 
 -- equal ratios, with the second one's parts negated
@@ -88,7 +97,8 @@ both_neg : (T N D x : ℤ) → T *ℤ N ≡ D *ℤ x → T *ℤ neg_ℤ N ≡ D 
 both_neg T N D x e = omega (arith, linear, times-neg T N, times-neg D x)
 
 -- and so are their negations
-pub reversed : (p q : Point) (t : Tri) (m n : Determinants) → n.whole ≡ neg_ℤ m.whole → n.time ≡ neg_ℤ m.time → n.second ≡ neg_ℤ m.second → n.third ≡ neg_ℤ m.third → AreDeterminants p q t m → AreDeterminants p q t n
+pub reversed : (p q : Point) (t : Tri) (m n : Determinants) → n.whole ≡ neg_ℤ m.whole → n.time ≡ neg_ℤ m.time
+    → n.second ≡ neg_ℤ m.second → n.third ≡ neg_ℤ m.third → AreDeterminants p q t m → AreDeterminants p q t n
 reversed p q t m n a b c e h = record {
   combines = rw (a, b, c, e) (record {
     on_x = axis_neg m.whole m.time m.second m.third _ _ _ _ h.combines.on_x;

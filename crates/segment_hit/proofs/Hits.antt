@@ -14,7 +14,8 @@ use Rattle.segment_hit.specs.declared.vectors.Determinants.{Determinants}
 use Rattle.segment_hit.specs.declared.fraction.Frac.{Frac}
 
 -- determinants that pass the tests are a meeting
-pub meets : (p q : Point) (t : Tri) (m : Determinants) → whole_of p q t ≢ pos 0 → AreDeterminants p q t m → pos 0 <ℤ m.whole → IsInside m → MeetsAt p q t m.time m.whole
+pub meets : (p q : Point) (t : Tri) (m : Determinants) → whole_of p q t ≢ pos 0 → AreDeterminants p q t m
+    → pos 0 <ℤ m.whole → IsInside m → MeetsAt p q t m.time m.whole
 meets p q t m c a n i = record {
   crosses = c;
   positive = n;
@@ -24,7 +25,8 @@ meets p q t m c a n i = record {
 }
 
 -- numbers in the ratio of the determinants pass the tests as these do
-inside : (D T u v w : ℤ) (m : Determinants) → pos 0 <ℤ D → pos 0 <ℤ m.whole → pos 0 ≤ℤ T → T ≤ℤ D → pos 0 ≤ℤ u → pos 0 ≤ℤ v → pos 0 ≤ℤ w → u +ℤ v +ℤ w ≡ D →
+inside : (D T u v w : ℤ) (m : Determinants) → pos 0 <ℤ D → pos 0 <ℤ m.whole → pos 0 ≤ℤ T → T ≤ℤ D → pos 0 ≤ℤ u
+    → pos 0 ≤ℤ v → pos 0 ≤ℤ w → u +ℤ v +ℤ w ≡ D →
     T *ℤ m.whole ≡ D *ℤ m.time → v *ℤ m.whole ≡ D *ℤ m.second → w *ℤ m.whole ≡ D *ℤ m.third → IsInside m
 inside D T u v w m d n lo hi pu pv pw e et ev ew = record {
   begun = not_negative D m.whole T m.time d n lo et;
@@ -33,11 +35,13 @@ inside D T u v w m d n lo hi pu pv pw e et ev ew = record {
   third_weight = not_negative D m.whole w m.third d n pw ew;
   first_weight =
       let s : (v +ℤ w) ≤ℤ D = omega (arith, ints) in
-      at_most D m.whole (v +ℤ w) (m.second +ℤ m.third) d n s (omega (arith, linear, add-times v w m.whole, times-add D m.second m.third));
+      at_most D m.whole (v +ℤ w) (m.second +ℤ m.third) d n s
+      (omega (arith, linear, add-times v w m.whole, times-add D m.second m.third));
 }
 
 -- where the segment meets the triangle the determinants pass the tests, at that fraction
-pub passes : (p q : Point) (t : Tri) (m : Determinants) (T D : ℤ) → AreDeterminants p q t m → pos 0 <ℤ m.whole → MeetsAt p q t T D → IsInside m × (T *ℤ m.whole ≡ D *ℤ m.time)
+pub passes : (p q : Point) (t : Tri) (m : Determinants) (T D : ℤ) → AreDeterminants p q t m → pos 0 <ℤ m.whole
+    → MeetsAt p q t T D → IsInside m × (T *ℤ m.whole ≡ D *ℤ m.time)
 passes p q t m T D a n h =
     let u = h.weights.0 in
     let v = h.weights.1 in
@@ -62,7 +66,7 @@ same_fraction num den N S T D n e k =
     turned_about a b c = rw (← parts a, ← parts b, ← parts c) (simp to_diff (same_diff _ _ _ _ (omega arith)))
 
 -- what is above 0 is not 0
-nonzero : (N : ℤ) → pos 0 <ℤ N → N ≢ pos 0
+pub nonzero : (N : ℤ) → pos 0 <ℤ N → N ≢ pos 0
 nonzero N h = omega (arith, ints)
 
 -- at a meeting, T is to D as the determinants are
@@ -74,17 +78,21 @@ time_of_meeting p q t T D h =
 -- all fractions at which a segment meets a triangle are one
 pub one_meeting : (p q : Point) (t : Tri) (T D U E : ℤ) → MeetsAt p q t T D → MeetsAt p q t U E → T *ℤ E ≡ U *ℤ D
 one_meeting p q t T D U E h k =
-    same_fraction T D (whole_of p q t) (time_of p t) U E h.crosses (time_of_meeting p q t T D h ∙ times_comm D (time_of p t)) (time_of_meeting p q t U E k)
+    same_fraction T D (whole_of p q t) (time_of p t) U E h.crosses (time_of_meeting p q t T D h
+    ∙ times_comm D (time_of p t)) (time_of_meeting p q t U E k)
 
 -- what is answered where the tests pass is a hit
-pub hit_found : (p q : Point) (t : Tri) (m : Determinants) (o : Option Frac) → whole_of p q t ≢ pos 0 → AreDeterminants p q t m → pos 0 <ℤ m.whole →
+pub hit_found : (p q : Point) (t : Tri) (m : Determinants) (o : Option Frac) → whole_of p q t ≢ pos 0
+    → AreDeterminants p q t m → pos 0 <ℤ m.whole →
     IfSome o (λ f. IsInside m × IsFraction f m.time m.whole) → IfSome o (λ f. IsHit p q t f)
 hit_found p q t m None c a n h = h
 hit_found p q t m (Some f) c a n h = (m.time, m.whole, meets p q t m c a n h.0, h.1)
 
 -- and each meeting is at the fraction that is answered
-pub hit_only : (p q : Point) (t : Tri) (m : Determinants) (o : Option Frac) → AreDeterminants p q t m → pos 0 <ℤ m.whole →
-    (IsInside m → IsSomeAnd o (λ f. IsFraction f m.time m.whole)) → (T D : ℤ) → MeetsAt p q t T D → IsSomeAnd o (λ f. IsFraction f T D)
+pub hit_only : (p q : Point) (t : Tri) (m : Determinants) (o : Option Frac) → AreDeterminants p q t m
+    → pos 0 <ℤ m.whole →
+    (IsInside m → IsSomeAnd o (λ f. IsFraction f m.time m.whole)) → (T D : ℤ) → MeetsAt p q t T D
+    → IsSomeAnd o (λ f. IsFraction f T D)
 hit_only p q t m None a n h T D k = h (passes p q t m T D a n k).0
 hit_only p q t m (Some f) a n h T D k =
     let e = passes p q t m T D a n k in

@@ -49,14 +49,16 @@ crossed x x' y y' a b c d e f =
     omega arith
 
 -- so the parts of a product are those of any differences
-split_mul : (x y : ℤ) (a b c d : ℕ) → up x + b ≡ down x + a → up y + d ≡ down y + c → up (x *ℤ y) + (a * d + b * c) ≡ down (x *ℤ y) + (a * c + b * d)
+split_mul : (x y : ℤ) (a b c d : ℕ) → up x + b ≡ down x + a → up y + d ≡ down y + c
+    → up (x *ℤ y) + (a * d + b * c) ≡ down (x *ℤ y) + (a * c + b * d)
 split_mul x y a b c d e f = omega (arith, product_is x y, crossed (up x) (down x) (up y) (down y) a b c d e f)
 
 -- a product of differences
 pub mul-diff : (a b c d : ℕ) → diff a b *ℤ diff c d ≡ diff (a * c + b * d) (a * d + b * c)
 unfolding diff
 mul-diff a b c d =
-    let m : up ((pos a -ℤ pos b) *ℤ (pos c -ℤ pos d)) + (a * d + b * c) ≡ down ((pos a -ℤ pos b) *ℤ (pos c -ℤ pos d)) + (a * c + b * d)
+    let m : up ((pos a -ℤ pos b) *ℤ (pos c -ℤ pos d)) + (a * d + b * c)
+    ≡ down ((pos a -ℤ pos b) *ℤ (pos c -ℤ pos d)) + (a * c + b * d)
     = split_mul (pos a -ℤ pos b) (pos c -ℤ pos d) a b c d (omega (arith, ints)) (omega (arith, ints)) in
     same_in _ _ (omega (arith, sum_is_lem, neg_is, m))
 

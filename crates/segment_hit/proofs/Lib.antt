@@ -5,3 +5,6 @@ pub mod Combinations
 pub mod Divisions
 pub mod Hits
 pub mod LowestTerms
+pub mod FractionLaws
+pub mod HitFractions
+pub mod BoxesOfMeetings

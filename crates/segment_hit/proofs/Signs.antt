@@ -1,6 +1,8 @@
 -- Signs of products over the integers: from equal ratios to bounds, and the cancelling of factors.
-use Rattle.std.proofs.Common.{◌≡◌, ◌≢◌, ℕ, zero, suc, ℤ, pos, negsuc, ◌+ℤ◌, ◌-ℤ◌, ◌*ℤ◌, neg_ℤ, ◌≤ℤ◌, ◌<ℤ◌, arith, refl}
+use Rattle.std.proofs.Common.{◌≡◌, ◌≢◌, ℕ, zero, suc, ◌+◌, ◌*◌, ◌≤◌, ℤ, pos, negsuc, ◌+ℤ◌, ◌-ℤ◌, ◌*ℤ◌, neg_ℤ, ◌≤ℤ◌, ◌<ℤ◌, arith, refl}
 use Rattle.std.proofs.lemmas.Int.{ints}
+use borrow.Author.Differences.{up, down, product_is, le_out, lt_out, at_most_in, below_in}
+use native.Mathlib.Nat.{mul-le-mul_right}
 use Rattle.segment_hit.proofs.Integers.{linear, sub-times, times-sub, times-neg, times_comm}
 
 -- a product by one
@@ -28,8 +30,12 @@ at_most D N T x d n t e =
 pub cancel_right : (x y N : ℤ) → pos 0 <ℤ N → x *ℤ N ≡ y *ℤ N → x ≡ y
 cancel_right x y N n e =
     let one : pos 0 <ℤ pos 1 = omega (arith, ints) in
-    let a : pos 0 ≤ℤ (x -ℤ y) = not_negative N (pos 1) (pos 0) (x -ℤ y) n one (omega (arith, ints)) (omega (arith, linear, times-sub N x y, times_comm x N, times_comm y N, times-one 0)) in
-    let b : pos 0 ≤ℤ (y -ℤ x) = not_negative N (pos 1) (pos 0) (y -ℤ x) n one (omega (arith, ints)) (omega (arith, linear, times-sub N y x, times_comm x N, times_comm y N, times-one 0)) in
+    let a : pos 0 ≤ℤ (x -ℤ y) =
+    not_negative N (pos 1) (pos 0) (x -ℤ y) n one (omega (arith, ints))
+    (omega (arith, linear, times-sub N x y, times_comm x N, times_comm y N, times-one 0)) in
+    let b : pos 0 ≤ℤ (y -ℤ x) =
+    not_negative N (pos 1) (pos 0) (y -ℤ x) n one (omega (arith, ints))
+    (omega (arith, linear, times-sub N y x, times_comm x N, times_comm y N, times-one 0)) in
     omega (arith, ints)
 
 -- a factor that is not 0 cancels
@@ -37,4 +43,28 @@ pub cancel_nonzero : (x y N : ℤ) → N ≢ pos 0 → x *ℤ N ≡ y *ℤ N →
 cancel_nonzero x y (pos zero) n e = absurd (n refl)
 cancel_nonzero x y (pos (suc k)) n e = cancel_right x y (pos (suc k)) (omega (arith, ints)) e
 cancel_nonzero x y (negsuc k) n e =
-    cancel_right x y (neg_ℤ (negsuc k)) (omega (arith, ints)) (omega (arith, linear, times-neg x (negsuc k), times-neg y (negsuc k)))
+    cancel_right x y (neg_ℤ (negsuc k)) (omega (arith, ints))
+    (omega (arith, linear, times-neg x (negsuc k), times-neg y (negsuc k)))
+
+-- equations and orders that are linear in products, which stay unknowns
+pub ruleset orderly = (linear, le_out, lt_out, at_most_in, below_in)
+
+-- x ≤ y gives x c ≤ y c
+pub grows : (x y c : ℤ) → pos 0 ≤ℤ c → x ≤ℤ y → (x *ℤ c) ≤ℤ (y *ℤ c)
+grows x y (negsuc k) p h = absurd (omega (arith, ints))
+grows x y (pos k) p h =
+    let e : (up x + down y) * k ≤ (up y + down x) * k = mul-le-mul_right k (le_out x y h) in
+    omega (arith, orderly, product_is x (pos k), product_is y (pos k))
+
+-- and x c ≤ y c gives x ≤ y, where c is above 0
+pub shrinks : (x y c : ℤ) → pos 0 <ℤ c → (x *ℤ c) ≤ℤ (y *ℤ c) → x ≤ℤ y
+shrinks x y c p h =
+    let one : pos 0 <ℤ pos 1 = omega (arith, ints) in
+    let e : (y *ℤ c -ℤ x *ℤ c) *ℤ pos 1 ≡ c *ℤ (y -ℤ x) =
+    omega (arith, linear, any-times-one (y *ℤ c -ℤ x *ℤ c), times-sub c y x, times_comm c y, times_comm c x) in
+    let d : pos 0 ≤ℤ (y *ℤ c -ℤ x *ℤ c) = omega (arith, orderly) in
+    let k : pos 0 ≤ℤ (y -ℤ x) = not_negative c (pos 1) (y *ℤ c -ℤ x *ℤ c) (y -ℤ x) p one d e in
+    omega (arith, orderly)
+  where
+    any-times-one : (z : ℤ) → z *ℤ pos 1 ≡ z
+    any-times-one z = omega (arith, ints)

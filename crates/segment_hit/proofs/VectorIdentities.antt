@@ -10,9 +10,27 @@ dot-scaled T d k = rw (← parts T, ← parts d.x, ← parts d.y, ← parts d.z,
 
 -- the dot product of a combination of three vectors
 pub dot-sum : (D v w : ℤ) (r f g k : Vector) →
-    (D *ℤ r.x +ℤ v *ℤ f.x +ℤ w *ℤ g.x) *ℤ k.x +ℤ (D *ℤ r.y +ℤ v *ℤ f.y +ℤ w *ℤ g.y) *ℤ k.y +ℤ (D *ℤ r.z +ℤ v *ℤ f.z +ℤ w *ℤ g.z) *ℤ k.z
+    (D *ℤ r.x +ℤ v *ℤ f.x +ℤ w *ℤ g.x) *ℤ k.x +ℤ (D *ℤ r.y +ℤ v *ℤ f.y +ℤ w *ℤ g.y) *ℤ k.y +ℤ
+    (D *ℤ r.z +ℤ v *ℤ f.z +ℤ w *ℤ g.z) *ℤ k.z
     ≡ D *ℤ dot r k +ℤ v *ℤ dot f k +ℤ w *ℤ dot g k
-dot-sum D v w r f g k = rw (← parts D, ← parts v, ← parts w, ← parts r.x, ← parts r.y, ← parts r.z, ← parts f.x, ← parts f.y, ← parts f.z, ← parts g.x, ← parts g.y, ← parts g.z, ← parts k.x, ← parts k.y, ← parts k.z)
+dot-sum D v w r f g k =
+    rw (
+      ← parts D,
+      ← parts v,
+      ← parts w,
+      ← parts r.x,
+      ← parts r.y,
+      ← parts r.z,
+      ← parts f.x,
+      ← parts f.y,
+      ← parts f.z,
+      ← parts g.x,
+      ← parts g.y,
+      ← parts g.z,
+      ← parts k.x,
+      ← parts k.y,
+      ← parts k.z,
+    )
     (simp to_diff (same_diff _ _ _ _ (omega arith)))
 
 -- a cross product is orthogonal to its first factor
@@ -27,37 +45,125 @@ cross_right f g = rw zero-diff (rw (← parts f.x, ← parts f.y, ← parts f.z,
 
 -- a . (b x c) = c . (a x b)
 pub turned : (a b c : Vector) → dot a (cross b c) ≡ dot c (cross a b)
-turned a b c = rw (← parts a.x, ← parts a.y, ← parts a.z, ← parts b.x, ← parts b.y, ← parts b.z, ← parts c.x, ← parts c.y, ← parts c.z)
+turned a b c =
+    rw (
+      ← parts a.x,
+      ← parts a.y,
+      ← parts a.z,
+      ← parts b.x,
+      ← parts b.y,
+      ← parts b.z,
+      ← parts c.x,
+      ← parts c.y,
+      ← parts c.z,
+    )
     (simp to_diff (same_diff _ _ _ _ (omega arith)))
 
 -- a . (b x c) = -(b . (a x c))
 pub swapped : (a b c : Vector) → dot a (cross b c) ≡ neg_ℤ (dot b (cross a c))
-swapped a b c = rw (← parts a.x, ← parts a.y, ← parts a.z, ← parts b.x, ← parts b.y, ← parts b.z, ← parts c.x, ← parts c.y, ← parts c.z)
+swapped a b c =
+    rw (
+      ← parts a.x,
+      ← parts a.y,
+      ← parts a.z,
+      ← parts b.x,
+      ← parts b.y,
+      ← parts b.z,
+      ← parts c.x,
+      ← parts c.y,
+      ← parts c.z,
+    )
     (simp to_diff (same_diff _ _ _ _ (omega arith)))
 
 -- n x (r x d), and (f x g) x m, on the axis x
 pub bac_x : (n r d : Vector) → (cross n (cross r d)).x ≡ dot d n *ℤ r.x -ℤ dot r n *ℤ d.x
-bac_x n r d = rw (← parts n.x, ← parts n.y, ← parts n.z, ← parts r.x, ← parts r.y, ← parts r.z, ← parts d.x, ← parts d.y, ← parts d.z)
+bac_x n r d =
+    rw (
+      ← parts n.x,
+      ← parts n.y,
+      ← parts n.z,
+      ← parts r.x,
+      ← parts r.y,
+      ← parts r.z,
+      ← parts d.x,
+      ← parts d.y,
+      ← parts d.z,
+    )
     (simp to_diff (same_diff _ _ _ _ (omega arith)))
 
 pub cab_x : (f g m : Vector) → (cross (cross f g) m).x ≡ dot f m *ℤ g.x -ℤ dot g m *ℤ f.x
-cab_x f g m = rw (← parts f.x, ← parts f.y, ← parts f.z, ← parts g.x, ← parts g.y, ← parts g.z, ← parts m.x, ← parts m.y, ← parts m.z)
+cab_x f g m =
+    rw (
+      ← parts f.x,
+      ← parts f.y,
+      ← parts f.z,
+      ← parts g.x,
+      ← parts g.y,
+      ← parts g.z,
+      ← parts m.x,
+      ← parts m.y,
+      ← parts m.z,
+    )
     (simp to_diff (same_diff _ _ _ _ (omega arith)))
 
 -- n x (r x d), and (f x g) x m, on the axis y
 pub bac_y : (n r d : Vector) → (cross n (cross r d)).y ≡ dot d n *ℤ r.y -ℤ dot r n *ℤ d.y
-bac_y n r d = rw (← parts n.x, ← parts n.y, ← parts n.z, ← parts r.x, ← parts r.y, ← parts r.z, ← parts d.x, ← parts d.y, ← parts d.z)
+bac_y n r d =
+    rw (
+      ← parts n.x,
+      ← parts n.y,
+      ← parts n.z,
+      ← parts r.x,
+      ← parts r.y,
+      ← parts r.z,
+      ← parts d.x,
+      ← parts d.y,
+      ← parts d.z,
+    )
     (simp to_diff (same_diff _ _ _ _ (omega arith)))
 
 pub cab_y : (f g m : Vector) → (cross (cross f g) m).y ≡ dot f m *ℤ g.y -ℤ dot g m *ℤ f.y
-cab_y f g m = rw (← parts f.x, ← parts f.y, ← parts f.z, ← parts g.x, ← parts g.y, ← parts g.z, ← parts m.x, ← parts m.y, ← parts m.z)
+cab_y f g m =
+    rw (
+      ← parts f.x,
+      ← parts f.y,
+      ← parts f.z,
+      ← parts g.x,
+      ← parts g.y,
+      ← parts g.z,
+      ← parts m.x,
+      ← parts m.y,
+      ← parts m.z,
+    )
     (simp to_diff (same_diff _ _ _ _ (omega arith)))
 
 -- n x (r x d), and (f x g) x m, on the axis z
 pub bac_z : (n r d : Vector) → (cross n (cross r d)).z ≡ dot d n *ℤ r.z -ℤ dot r n *ℤ d.z
-bac_z n r d = rw (← parts n.x, ← parts n.y, ← parts n.z, ← parts r.x, ← parts r.y, ← parts r.z, ← parts d.x, ← parts d.y, ← parts d.z)
+bac_z n r d =
+    rw (
+      ← parts n.x,
+      ← parts n.y,
+      ← parts n.z,
+      ← parts r.x,
+      ← parts r.y,
+      ← parts r.z,
+      ← parts d.x,
+      ← parts d.y,
+      ← parts d.z,
+    )
     (simp to_diff (same_diff _ _ _ _ (omega arith)))
 
 pub cab_z : (f g m : Vector) → (cross (cross f g) m).z ≡ dot f m *ℤ g.z -ℤ dot g m *ℤ f.z
-cab_z f g m = rw (← parts f.x, ← parts f.y, ← parts f.z, ← parts g.x, ← parts g.y, ← parts g.z, ← parts m.x, ← parts m.y, ← parts m.z)
+cab_z f g m =
+    rw (
+      ← parts f.x,
+      ← parts f.y,
+      ← parts f.z,
+      ← parts g.x,
+      ← parts g.y,
+      ← parts g.z,
+      ← parts m.x,
+      ← parts m.y,
+      ← parts m.z,
+    )
     (simp to_diff (same_diff _ _ _ _ (omega arith)))

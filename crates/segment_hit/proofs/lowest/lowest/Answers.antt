@@ -5,7 +5,10 @@ use Rattle.segment_hit.proofs.lowest.lowest.Goals as goal
 
 pub invariant_of-result : goal.invariant_of-result
 invariant_of-result c =
-    rw (to_z_pos w64 (c.args.num / c.gcd-shared.result) (smaller _ _ c.requires.num_fits), to_z_pos w64 (c.args.den / c.gcd-shared.result) (smaller _ _ c.requires.den_fits))
+    rw (
+      to_z_pos w64 (c.args.num / c.gcd-shared.result) (smaller _ _ c.requires.num_fits),
+      to_z_pos w64 (c.args.den / c.gcd-shared.result) (smaller _ _ c.requires.den_fits),
+    )
     (record {
       above = some_left _ _ c.requires.above c.gcd-shared.ensures.1;
       lowest = reduced _ _ _ c.requires.above c.gcd-shared.ensures;
@@ -13,5 +16,8 @@ invariant_of-result c =
 
 pub returns : goal.returns
 returns c =
-    rw (to_z_pos w64 (c.args.num / c.gcd-shared.result) (smaller _ _ c.requires.num_fits), to_z_pos w64 (c.args.den / c.gcd-shared.result) (smaller _ _ c.requires.den_fits))
+    rw (
+      to_z_pos w64 (c.args.num / c.gcd-shared.result) (smaller _ _ c.requires.num_fits),
+      to_z_pos w64 (c.args.den / c.gcd-shared.result) (smaller _ _ c.requires.den_fits),
+    )
     (same_value _ _ _ c.gcd-shared.ensures)

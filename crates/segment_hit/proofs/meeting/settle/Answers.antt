@@ -20,5 +20,9 @@ returns-clause-found c =
         third_weight = omega (arith, ints);
         first_weight = omega (arith, ints);
       },
-      rw (back c.args.m.now.time (fits_signed_from_abs w64 c.args.m.now.time (omega arith)) time, back c.args.m.now.whole (fits_signed_from_abs w64 c.args.m.now.whole (omega arith)) whole) at c.lowest.ensures,
+      rw (
+        back c.args.m.now.time (fits_signed_from_abs w64 c.args.m.now.time (omega arith)) time,
+        back c.args.m.now.whole
+            (fits_signed_from_abs w64 c.args.m.now.whole (omega arith)) whole,
+      ) at c.lowest.ensures,
     )
