@@ -1,7 +1,8 @@
 -- The order of fractions: it is total and transitive, and fractions in lowest terms that are equal in it are the same.
 use mathlib.Core.HLevel.{is_prop→PathP}
-use Rattle.std.proofs.Common.{◌≡◌, ℕ, ◌*◌, ℤ, pos, negsuc, ◌*ℤ◌, ◌≤ℤ◌, ◌<ℤ◌, unsigned_abs, arith, ap, sym, ◌∙◌, refl, inl, inr, ◌⊎◌, subst, Less, Equal}
-use Rattle.std.specs.Ordering.{int_cmp}
+use Rattle.std.proofs.Common.{◌≡◌, ℕ, ◌*◌, ℤ, pos, ◌*ℤ◌, ◌≤ℤ◌, ◌<ℤ◌, unsigned_abs, arith, ap, sym, ◌∙◌, refl, inl, inr, ◌⊎◌, subst, Less, Equal, Greater}
+use Rattle.std.specs.declared.cmp.Ordering.{Ordering}
+use Rattle.std.specs.Ordering.{int_cmp, MatchOrdering}
 use Rattle.std.specs.Cmp.{IsTotalOrder}
 use Rattle.std.specs.Int.{IsGcd, ◌∣◌}
 use Rattle.std.proofs.Math.Dec.{T_prop}
@@ -10,7 +11,7 @@ use Rattle.std.proofs.lemmas.Int.{ints, unsigned_abs-mul, by_lt_z}
 use Rattle.std.proofs.lemmas.Nat.Gcd.{dvd_antisymm}
 use Rattle.std.proofs.Math.Nat.{dvd-mul_left}
 use Rattle.segment_hit.proofs.Integers.{parts, same_diff, to_diff}
-use Rattle.segment_hit.proofs.Signs.{orderly, grows, shrinks, cancel_right}
+use Rattle.segment_hit.proofs.Signs.{size_is, orderly, grows, shrinks, cancel_right}
 use Rattle.segment_hit.proofs.LowestTerms.{divides_other}
 use Rattle.segment_hit.specs.FractionOrder.{frac_cmp, IsAtMost, IsBelow}
 use Rattle.segment_hit.specs.declared.fraction.Frac.{Frac}
@@ -63,11 +64,6 @@ below_trans a b c h k = elim (below_or_back a c) [
   | inr g ↦ absurd (not_below b c k (at_most_trans c a b g (below_at_most a b h)))
 ]
 
--- what is above 0 is its own size
-size_of_positive : (z : ℤ) → pos 0 <ℤ z → pos (unsigned_abs z) ≡ z
-size_of_positive (pos n) h = refl
-size_of_positive (negsuc n) h = absurd (omega (arith, ints))
-
 -- fractions in lowest terms of equal value have equal denominators
 same_den : (a b : Frac) → a.num *ℤ b.den ≡ b.num *ℤ a.den → a.den ≡ b.den
 same_den a b e =
@@ -81,7 +77,7 @@ same_den a b e =
     let second : unsigned_abs b.den ∣ unsigned_abs a.den =
     divides_other (unsigned_abs b.num) (unsigned_abs b.den) (unsigned_abs a.den) b.lowest
     (subst Q sizes (dvd-mul_left (unsigned_abs b.den) (unsigned_abs a.num))) in
-    sym (size_of_positive a.den a.above) ∙ ap pos (dvd_antisymm first second) ∙ size_of_positive b.den b.above
+    sym (size_is a.den (omega (arith, ints, a.above))) ∙ ap pos (dvd_antisymm first second) ∙ size_is b.den (omega (arith, ints, b.above))
 
 -- and equal numerators
 same_num : (a b : Frac) → a.num *ℤ b.den ≡ b.num *ℤ a.den → a.num ≡ b.num
@@ -131,3 +127,9 @@ frac_cmp_total = record {
   trans = λ a b c h k. below_is_less a c (below_trans a b c (less_is_below a b h) (less_is_below b c k));
   congr = λ a b c e. ap (λ (x : Frac). frac_cmp x c) (equal_is_same a b e);
 }
+
+-- what an answer of `cmp` says of two fractions
+pub frac_ranked : (a b : Frac) (o : Ordering) → o ≡ frac_cmp a b → MatchOrdering o (IsBelow a b) (a ≡ b) (IsBelow b a)
+frac_ranked a b Less e = less_is_below a b (sym e)
+frac_ranked a b Equal e = equal_is_same a b (sym e)
+frac_ranked a b Greater e = int_ranked (a.num *ℤ b.den) (b.num *ℤ a.den) Greater e

@@ -1,5 +1,5 @@
 -- Signs of products over the integers: from equal ratios to bounds, and the cancelling of factors.
-use Rattle.std.proofs.Common.{◌≡◌, ◌≢◌, ℕ, zero, suc, ◌+◌, ◌*◌, ◌≤◌, ℤ, pos, negsuc, ◌+ℤ◌, ◌-ℤ◌, ◌*ℤ◌, neg_ℤ, ◌≤ℤ◌, ◌<ℤ◌, arith, refl}
+use Rattle.std.proofs.Common.{◌≡◌, ◌≢◌, ℕ, zero, suc, ◌+◌, ◌*◌, ◌≤◌, ℤ, pos, negsuc, ◌+ℤ◌, ◌-ℤ◌, ◌*ℤ◌, neg_ℤ, ◌≤ℤ◌, ◌<ℤ◌, unsigned_abs, arith, refl}
 use Rattle.std.proofs.lemmas.Int.{ints}
 use borrow.Author.Differences.{up, down, product_is, le_out, lt_out, at_most_in, below_in}
 use native.Mathlib.Nat.{mul-le-mul_right}
@@ -68,3 +68,8 @@ shrinks x y c p h =
   where
     any-times-one : (z : ℤ) → z *ℤ pos 1 ≡ z
     any-times-one z = omega (arith, ints)
+
+-- what is not below 0 is its own size
+pub size_is : (z : ℤ) → pos 0 ≤ℤ z → pos (unsigned_abs z) ≡ z
+size_is (pos n) h = refl
+size_is (negsuc n) h = absurd (omega (arith, ints))
