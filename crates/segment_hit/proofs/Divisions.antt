@@ -1,5 +1,5 @@
 -- The relation on points, told by differences of points, and the determinants that solve it.
-use Rattle.std.proofs.Common.{◌≡◌, ℤ, pos, ◌+ℤ◌, ◌-ℤ◌, ◌*ℤ◌, neg_ℤ, arith}
+use Rattle.std.proofs.Common.{◌≡◌, ℤ, ◌+ℤ◌, ◌-ℤ◌, ◌*ℤ◌, neg_ℤ, arith}
 use Rattle.std.proofs.lemmas.Int.{ints}
 use Rattle.fixed_box.specs.declared.shapes.Point.{Point}
 use Rattle.fixed_box.specs.declared.shapes.Tri.{Tri}

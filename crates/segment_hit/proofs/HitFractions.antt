@@ -1,6 +1,6 @@
 -- The fraction of a hit: it is one, and it is from 0 to 1; zero is 0/1.
-use Rattle.std.proofs.Common.{◌≡◌, ℕ, zero, suc, ◌∙◌, ℤ, pos, negsuc, ◌*ℤ◌, ◌≤ℤ◌, ◌<ℤ◌, unsigned_abs, arith, sym, ap, refl, subst}
-use Rattle.std.specs.Int.{IsGcd, ◌∣◌}
+use Rattle.std.proofs.Common.{◌≡◌, ◌∙◌, ℤ, pos, negsuc, ◌*ℤ◌, ◌≤ℤ◌, ◌<ℤ◌, unsigned_abs, arith, sym, ap, subst}
+use Rattle.std.specs.Int.{◌∣◌}
 use Rattle.std.proofs.lemmas.Int.{ints}
 use Rattle.std.proofs.lemmas.Nat.Gcd.{dvd_refl, dvd-zero}
 use Rattle.std.proofs.Math.Nat.{eq-one_of_dvd-one}
@@ -10,7 +10,7 @@ use Rattle.segment_hit.proofs.Integers.{times_comm}
 use Rattle.segment_hit.proofs.Signs.{not_negative, at_most}
 use Rattle.segment_hit.proofs.Hits.{one_meeting, same_fraction, nonzero}
 use Rattle.segment_hit.proofs.FractionLaws.{same_fields}
-use Rattle.segment_hit.specs.Meeting.{MeetsAt, IsHit, IsFraction}
+use Rattle.segment_hit.specs.Meeting.{IsHit, IsFraction}
 use Rattle.segment_hit.specs.declared.fraction.Frac.{Frac}
 
 -- a fraction that is T/D and one that is an equal U/E are the same

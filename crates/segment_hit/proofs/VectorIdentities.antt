@@ -1,6 +1,6 @@
 -- Identities of dot and cross products, each a polynomial identity of the coordinates.
-use Rattle.std.proofs.Common.{◌≡◌, ℤ, pos, ◌+ℤ◌, ◌-ℤ◌, ◌*ℤ◌, neg_ℤ, arith, ◌∙◌}
-use Rattle.segment_hit.proofs.Integers.{parts, same_diff, to_diff, zero-diff, neg-times, linear}
+use Rattle.std.proofs.Common.{◌≡◌, ℤ, pos, ◌+ℤ◌, ◌-ℤ◌, ◌*ℤ◌, neg_ℤ, arith}
+use Rattle.segment_hit.proofs.Integers.{parts, same_diff, to_diff, zero-diff}
 use Rattle.segment_hit.specs.Vectors.{Vector, dot, cross}
 
 -- a multiple of a dot product, on each axis

@@ -1,4 +1,4 @@
-use Rattle.std.proofs.Common.{◌≡◌, ◌≤ℤ◌, ℤ, pos, negsuc, refl, arith, to_z, of_z, w64, unsigned_abs, FitsSigned}
+use Rattle.std.proofs.Common.{◌≡◌, ◌≤ℤ◌, ℤ, pos, arith, to_z, of_z, w64, unsigned_abs, FitsSigned}
 use Rattle.std.proofs.lemmas.Int.{ints, to_z-of_z, fits_signed_from_abs}
 use Rattle.segment_hit.proofs.Signs.{size_is}
 use Rattle.segment_hit.proofs.meeting.settle.Goals as goal
