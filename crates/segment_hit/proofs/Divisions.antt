@@ -1,12 +1,12 @@
 -- The relation on points, told by differences of points, and the determinants that solve it.
-use Rattle.std.proofs.Common.{◌≡◌, ℤ, ◌+ℤ◌, ◌-ℤ◌, ◌*ℤ◌, neg_ℤ, arith}
+use Rattle.std.proofs.Common.{◌≡◌, ◌≢◌, ℤ, pos, ◌+ℤ◌, ◌-ℤ◌, ◌*ℤ◌, ◌<ℤ◌, neg_ℤ, ◌⊎◌, inl, inr, sym, ap, ◌∙◌, subst, arith}
 use Rattle.std.proofs.lemmas.Int.{ints}
 use Rattle.fixed_box.specs.declared.shapes.Point.{Point}
 use Rattle.fixed_box.specs.declared.shapes.Tri.{Tri}
 use Rattle.segment_hit.proofs.Integers.{parts, same_diff, to_diff, cancel, linear, neg-times, times-neg}
 use Rattle.segment_hit.proofs.Combinations.{Combines, cramer, time_is, second_is, third_is}
 use Rattle.segment_hit.specs.Vectors.{from_to}
-use Rattle.segment_hit.specs.Determinants.{IsInside, whole_of, time_of, second_of, third_of}
+use Rattle.segment_hit.specs.Determinants.{IsInside, AreDeterminantsOf, AreNegated, whole_of}
 use Rattle.segment_hit.specs.Meeting.{Weighs}
 use Rattle.segment_hit.specs.declared.vectors.Determinants.{Determinants}
 
@@ -65,26 +65,25 @@ weighs p q t m h i =
       on_z = axis_out p.z q.z t.a.z t.b.z t.c.z T D (D -ℤ v -ℤ w) v w e h.on_z;
     }
 
--- those of m are a combination, and the numbers of any other are in the same ratio
-pub record AreDeterminants (p q : Point) (t : Tri) (m : Determinants) : Type 0 where
+-- the numbers of m are such a combination, and those of any other are in the same ratio
+pub record Solves (p q : Point) (t : Tri) (m : Determinants) : Type 0 where
   pub combines : Divides p q t m.whole m.time m.second m.third
   pub time_is : (D T v w : ℤ) → Divides p q t D T v w → T *ℤ m.whole ≡ D *ℤ m.time
   pub second_is : (D T v w : ℤ) → Divides p q t D T v w → v *ℤ m.whole ≡ D *ℤ m.second
   pub third_is : (D T v w : ℤ) → Divides p q t D T v w → w *ℤ m.whole ≡ D *ℤ m.third
 
--- the determinants as `measure` gives them are such
-pub determinants : (p q : Point) (t : Tri) (m : Determinants) → m.whole ≡ whole_of p q t → m.time ≡ time_of p t
-    → m.second ≡ second_of p q t → m.third ≡ third_of p q t → AreDeterminants p q t m
-determinants p q t m a b c e =
+-- the determinants are such
+pub determinants_solve : (p q : Point) (t : Tri) (m : Determinants) → AreDeterminantsOf p q t m → Solves p q t m
+determinants_solve p q t m e =
     let r = from_to p t.a in
     let d = from_to p q in
     let f = from_to t.a t.b in
     let g = from_to t.a t.c in
     record {
-      combines = rw (a, b, c, e) (cramer r d f g);
-      time_is = λ D T v w h. rw (a, b) (time_is D T v w r d f g h);
-      second_is = λ D T v w h. rw (a, c) (second_is D T v w r d f g h);
-      third_is = λ D T v w h. rw (a, e) (third_is D T v w r d f g h);
+      combines = rw (e.whole, e.time, e.second, e.third) (cramer r d f g);
+      time_is = λ D T v w h. rw (e.whole, e.time) (time_is D T v w r d f g h);
+      second_is = λ D T v w h. rw (e.whole, e.second) (second_is D T v w r d f g h);
+      third_is = λ D T v w h. rw (e.whole, e.third) (third_is D T v w r d f g h);
     }
 
 -- on one axis: a combination, negated
@@ -97,15 +96,51 @@ both_neg : (T N D x : ℤ) → T *ℤ N ≡ D *ℤ x → T *ℤ neg_ℤ N ≡ D 
 both_neg T N D x e = omega (arith, linear, times-neg T N, times-neg D x)
 
 -- and so are their negations
-pub reversed : (p q : Point) (t : Tri) (m n : Determinants) → n.whole ≡ neg_ℤ m.whole → n.time ≡ neg_ℤ m.time
-    → n.second ≡ neg_ℤ m.second → n.third ≡ neg_ℤ m.third → AreDeterminants p q t m → AreDeterminants p q t n
-reversed p q t m n a b c e h = record {
-  combines = rw (a, b, c, e) (record {
+pub negated_solve : (p q : Point) (t : Tri) (m n : Determinants) → AreNegated m n → Solves p q t m → Solves p q t n
+negated_solve p q t m n e h = record {
+  combines = rw (e.whole, e.time, e.second, e.third) (record {
     on_x = axis_neg m.whole m.time m.second m.third _ _ _ _ h.combines.on_x;
     on_y = axis_neg m.whole m.time m.second m.third _ _ _ _ h.combines.on_y;
     on_z = axis_neg m.whole m.time m.second m.third _ _ _ _ h.combines.on_z;
   });
-  time_is = λ D T v w k. rw (a, b) (both_neg T m.whole D m.time (h.time_is D T v w k));
-  second_is = λ D T v w k. rw (a, c) (both_neg v m.whole D m.second (h.second_is D T v w k));
-  third_is = λ D T v w k. rw (a, e) (both_neg w m.whole D m.third (h.third_is D T v w k));
+  time_is = λ D T v w k. rw (e.whole, e.time) (both_neg T m.whole D m.time (h.time_is D T v w k));
+  second_is = λ D T v w k. rw (e.whole, e.second) (both_neg v m.whole D m.second (h.second_is D T v w k));
+  third_is = λ D T v w k. rw (e.whole, e.third) (both_neg w m.whole D m.third (h.third_is D T v w k));
 }
+
+-- so are the determinants with either sign
+pub faced_solve : (p q : Point) (t : Tri) (m n : Determinants) → AreDeterminantsOf p q t m → (n ≡ m) ⊎ AreNegated m n
+    → Solves p q t n
+faced_solve p q t m n d h =
+    let s = determinants_solve p q t m d in
+    elim h [
+      | inl e ↦ subst (Solves p q t) (sym e) s
+      | inr k ↦ negated_solve p q t m n k s
+    ]
+
+-- where a whole of either sign is above 0, the segment is not parallel to the plane
+pub faced_crosses : (p q : Point) (t : Tri) (m n : Determinants) → AreDeterminantsOf p q t m
+    → (n ≡ m) ⊎ AreNegated m n →
+    pos 0 <ℤ n.whole → whole_of p q t ≢ pos 0
+faced_crosses p q t m n d h above = elim h [
+  | inl e ↦ nonzero m.whole (whole_of p q t) d.whole (subst (λ (x : Determinants). pos 0 <ℤ x.whole) e above)
+  | inr k ↦ negative n.whole m.whole (whole_of p q t) k.whole d.whole above
+]
+  where
+    nonzero : (a b : ℤ) → a ≡ b → pos 0 <ℤ a → b ≢ pos 0
+    nonzero a b e h = omega (arith, ints)
+
+    negative : (a b c : ℤ) → a ≡ neg_ℤ b → b ≡ c → pos 0 <ℤ a → c ≢ pos 0
+    negative a b c e f h = omega (arith, ints)
+
+-- and where it is 0, the segment is parallel
+pub faced_parallel : (p q : Point) (t : Tri) (m n : Determinants) → AreDeterminantsOf p q t m
+    → (n ≡ m) ⊎ AreNegated m n →
+    n.whole ≡ pos 0 → whole_of p q t ≡ pos 0
+faced_parallel p q t m n d h zero = elim h [
+  | inl e ↦ sym d.whole ∙ ap (λ (x : Determinants). x.whole) (sym e) ∙ zero
+  | inr k ↦ negative n.whole m.whole (whole_of p q t) k.whole d.whole zero
+]
+  where
+    negative : (a b c : ℤ) → a ≡ neg_ℤ b → b ≡ c → a ≡ pos 0 → c ≡ pos 0
+    negative a b c e f h = omega (arith, ints)

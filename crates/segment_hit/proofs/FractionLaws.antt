@@ -77,7 +77,8 @@ same_den a b e =
     let second : unsigned_abs b.den ∣ unsigned_abs a.den =
     divides_other (unsigned_abs b.num) (unsigned_abs b.den) (unsigned_abs a.den) b.lowest
     (subst Q sizes (dvd-mul_left (unsigned_abs b.den) (unsigned_abs a.num))) in
-    sym (size_is a.den (omega (arith, ints, a.above))) ∙ ap pos (dvd_antisymm first second) ∙ size_is b.den (omega (arith, ints, b.above))
+    sym (size_is a.den (omega (arith, ints, a.above))) ∙ ap pos (dvd_antisymm first second)
+    ∙ size_is b.den (omega (arith, ints, b.above))
 
 -- and equal numerators
 same_num : (a b : Frac) → a.num *ℤ b.den ≡ b.num *ℤ a.den → a.num ≡ b.num

@@ -1,11 +1,17 @@
 -- Identities of dot and cross products, each a polynomial identity of the coordinates.
-use Rattle.std.proofs.Common.{◌≡◌, ℤ, pos, ◌+ℤ◌, ◌-ℤ◌, ◌*ℤ◌, neg_ℤ, arith}
-use Rattle.segment_hit.proofs.Integers.{parts, same_diff, to_diff, zero-diff}
+use Rattle.std.proofs.Common.{◌≡◌, ℤ, pos, ◌+ℤ◌, ◌-ℤ◌, ◌*ℤ◌, neg_ℤ, arith, refl}
+use Rattle.segment_hit.proofs.Integers.{diff, parts, same_diff, to_diff, zero-diff}
+use borrow.Author.Differences.{up, down}
 use Rattle.segment_hit.specs.Vectors.{Vector, dot, cross}
+
+-- a vector as differences of naturals
+vector_parts : (v : Vector) →
+    record { x = diff (up v.x) (down v.x); y = diff (up v.y) (down v.y); z = diff (up v.z) (down v.z) } ≡ v
+vector_parts v = rw (parts v.x, parts v.y, parts v.z) refl
 
 -- a multiple of a dot product, on each axis
 pub dot-scaled : (T : ℤ) (d k : Vector) → T *ℤ dot d k ≡ (T *ℤ d.x) *ℤ k.x +ℤ (T *ℤ d.y) *ℤ k.y +ℤ (T *ℤ d.z) *ℤ k.z
-dot-scaled T d k = rw (← parts T, ← parts d.x, ← parts d.y, ← parts d.z, ← parts k.x, ← parts k.y, ← parts k.z)
+dot-scaled T d k = rw (← parts T, ← vector_parts d, ← vector_parts k)
     (simp to_diff (same_diff _ _ _ _ (omega arith)))
 
 -- the dot product of a combination of three vectors
@@ -14,156 +20,60 @@ pub dot-sum : (D v w : ℤ) (r f g k : Vector) →
     (D *ℤ r.z +ℤ v *ℤ f.z +ℤ w *ℤ g.z) *ℤ k.z
     ≡ D *ℤ dot r k +ℤ v *ℤ dot f k +ℤ w *ℤ dot g k
 dot-sum D v w r f g k =
-    rw (
-      ← parts D,
-      ← parts v,
-      ← parts w,
-      ← parts r.x,
-      ← parts r.y,
-      ← parts r.z,
-      ← parts f.x,
-      ← parts f.y,
-      ← parts f.z,
-      ← parts g.x,
-      ← parts g.y,
-      ← parts g.z,
-      ← parts k.x,
-      ← parts k.y,
-      ← parts k.z,
-    )
+    rw (← parts D, ← parts v, ← parts w, ← vector_parts r, ← vector_parts f, ← vector_parts g, ← vector_parts k)
     (simp to_diff (same_diff _ _ _ _ (omega arith)))
 
 -- a cross product is orthogonal to its first factor
 pub cross_left : (f g : Vector) → dot f (cross f g) ≡ pos 0
-cross_left f g = rw zero-diff (rw (← parts f.x, ← parts f.y, ← parts f.z, ← parts g.x, ← parts g.y, ← parts g.z)
+cross_left f g = rw zero-diff (rw (← vector_parts f, ← vector_parts g)
     (simp to_diff (same_diff _ _ _ _ (omega arith))))
 
 -- and to its second
 pub cross_right : (f g : Vector) → dot g (cross f g) ≡ pos 0
-cross_right f g = rw zero-diff (rw (← parts f.x, ← parts f.y, ← parts f.z, ← parts g.x, ← parts g.y, ← parts g.z)
+cross_right f g = rw zero-diff (rw (← vector_parts f, ← vector_parts g)
     (simp to_diff (same_diff _ _ _ _ (omega arith))))
 
 -- a . (b x c) = c . (a x b)
 pub turned : (a b c : Vector) → dot a (cross b c) ≡ dot c (cross a b)
 turned a b c =
-    rw (
-      ← parts a.x,
-      ← parts a.y,
-      ← parts a.z,
-      ← parts b.x,
-      ← parts b.y,
-      ← parts b.z,
-      ← parts c.x,
-      ← parts c.y,
-      ← parts c.z,
-    )
+    rw (← vector_parts a, ← vector_parts b, ← vector_parts c)
     (simp to_diff (same_diff _ _ _ _ (omega arith)))
 
 -- a . (b x c) = -(b . (a x c))
 pub swapped : (a b c : Vector) → dot a (cross b c) ≡ neg_ℤ (dot b (cross a c))
 swapped a b c =
-    rw (
-      ← parts a.x,
-      ← parts a.y,
-      ← parts a.z,
-      ← parts b.x,
-      ← parts b.y,
-      ← parts b.z,
-      ← parts c.x,
-      ← parts c.y,
-      ← parts c.z,
-    )
+    rw (← vector_parts a, ← vector_parts b, ← vector_parts c)
     (simp to_diff (same_diff _ _ _ _ (omega arith)))
 
 -- n x (r x d), and (f x g) x m, on the axis x
 pub bac_x : (n r d : Vector) → (cross n (cross r d)).x ≡ dot d n *ℤ r.x -ℤ dot r n *ℤ d.x
 bac_x n r d =
-    rw (
-      ← parts n.x,
-      ← parts n.y,
-      ← parts n.z,
-      ← parts r.x,
-      ← parts r.y,
-      ← parts r.z,
-      ← parts d.x,
-      ← parts d.y,
-      ← parts d.z,
-    )
+    rw (← vector_parts n, ← vector_parts r, ← vector_parts d)
     (simp to_diff (same_diff _ _ _ _ (omega arith)))
 
 pub cab_x : (f g m : Vector) → (cross (cross f g) m).x ≡ dot f m *ℤ g.x -ℤ dot g m *ℤ f.x
 cab_x f g m =
-    rw (
-      ← parts f.x,
-      ← parts f.y,
-      ← parts f.z,
-      ← parts g.x,
-      ← parts g.y,
-      ← parts g.z,
-      ← parts m.x,
-      ← parts m.y,
-      ← parts m.z,
-    )
+    rw (← vector_parts f, ← vector_parts g, ← vector_parts m)
     (simp to_diff (same_diff _ _ _ _ (omega arith)))
 
 -- n x (r x d), and (f x g) x m, on the axis y
 pub bac_y : (n r d : Vector) → (cross n (cross r d)).y ≡ dot d n *ℤ r.y -ℤ dot r n *ℤ d.y
 bac_y n r d =
-    rw (
-      ← parts n.x,
-      ← parts n.y,
-      ← parts n.z,
-      ← parts r.x,
-      ← parts r.y,
-      ← parts r.z,
-      ← parts d.x,
-      ← parts d.y,
-      ← parts d.z,
-    )
+    rw (← vector_parts n, ← vector_parts r, ← vector_parts d)
     (simp to_diff (same_diff _ _ _ _ (omega arith)))
 
 pub cab_y : (f g m : Vector) → (cross (cross f g) m).y ≡ dot f m *ℤ g.y -ℤ dot g m *ℤ f.y
 cab_y f g m =
-    rw (
-      ← parts f.x,
-      ← parts f.y,
-      ← parts f.z,
-      ← parts g.x,
-      ← parts g.y,
-      ← parts g.z,
-      ← parts m.x,
-      ← parts m.y,
-      ← parts m.z,
-    )
+    rw (← vector_parts f, ← vector_parts g, ← vector_parts m)
     (simp to_diff (same_diff _ _ _ _ (omega arith)))
 
 -- n x (r x d), and (f x g) x m, on the axis z
 pub bac_z : (n r d : Vector) → (cross n (cross r d)).z ≡ dot d n *ℤ r.z -ℤ dot r n *ℤ d.z
 bac_z n r d =
-    rw (
-      ← parts n.x,
-      ← parts n.y,
-      ← parts n.z,
-      ← parts r.x,
-      ← parts r.y,
-      ← parts r.z,
-      ← parts d.x,
-      ← parts d.y,
-      ← parts d.z,
-    )
+    rw (← vector_parts n, ← vector_parts r, ← vector_parts d)
     (simp to_diff (same_diff _ _ _ _ (omega arith)))
 
 pub cab_z : (f g m : Vector) → (cross (cross f g) m).z ≡ dot f m *ℤ g.z -ℤ dot g m *ℤ f.z
 cab_z f g m =
-    rw (
-      ← parts f.x,
-      ← parts f.y,
-      ← parts f.z,
-      ← parts g.x,
-      ← parts g.y,
-      ← parts g.z,
-      ← parts m.x,
-      ← parts m.y,
-      ← parts m.z,
-    )
+    rw (← vector_parts f, ← vector_parts g, ← vector_parts m)
     (simp to_diff (same_diff _ _ _ _ (omega arith)))

@@ -1,5 +1,5 @@
 -- The determinants that `hit` works out, and the tests that it makes on them. No public clause cites this module.
-use Rattle.std.specs.Prelude.{ℤ, pos, ◌+ℤ◌, ◌≤ℤ◌, neg_ℤ}
+use Rattle.std.specs.Prelude.{◌≡◌, ℤ, pos, ◌+ℤ◌, ◌≤ℤ◌, neg_ℤ}
 use Rattle.fixed_box.specs.declared.shapes.Point.{Point}
 use Rattle.fixed_box.specs.declared.shapes.Tri.{Tri}
 use Rattle.segment_hit.specs.Vectors.{Vector, from_to, dot, cross, normal}
@@ -30,6 +30,20 @@ second_of p q t = dot (from_to t.a t.c) (cross (from_to p t.a) (from_to p q))
 -- -(b - a) . ((a - p) x (q - p)): the weight of the third corner
 abbrev pub third_of : Point → Point → Tri → ℤ
 third_of p q t = neg_ℤ (dot (from_to t.a t.b) (cross (from_to p t.a) (from_to p q)))
+
+-- m holds the determinants of the segment from p to q and the triangle
+pub record AreDeterminantsOf (p q : Point) (t : Tri) (m : Determinants) : Type 0 where
+  pub whole : m.whole ≡ whole_of p q t
+  pub time : m.time ≡ time_of p t
+  pub second : m.second ≡ second_of p q t
+  pub third : m.third ≡ third_of p q t
+
+-- n holds the negations of what m holds
+pub record AreNegated (m n : Determinants) : Type 0 where
+  pub whole : n.whole ≡ neg_ℤ m.whole
+  pub time : n.time ≡ neg_ℤ m.time
+  pub second : n.second ≡ neg_ℤ m.second
+  pub third : n.third ≡ neg_ℤ m.third
 
 -- the time is from 0 to the whole, and no corner has a weight below 0
 pub record IsInside (m : Determinants) : Type 0 where

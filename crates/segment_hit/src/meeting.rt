@@ -8,7 +8,7 @@ ghost use Rattle.segment_hit.specs.Meeting.{MeetsAt, IsHit, IsFraction};
 
 use crate::Frac;
 use crate::lowest::lowest;
-use crate::products::{measure, reverse};
+use crate::products::{facing, measure};
 use crate::vectors::Determinants;
 use fixed_box::{Point, Tri};
 
@@ -41,12 +41,9 @@ pub fn hit(p: Point, q: Point, t: &Tri) -> Option<Frac>
     // so it is None only where the segment does not meet the triangle
     ensures only { (T D : ℤ) → MeetsAt p q t.now T D → IsSomeAnd result (λ f. IsFraction f T D) }
 {
-    let measured = measure(&p, &q, t);
-    if measured.whole < 0 {
-        settle(&reverse(&measured))
-    } else if 0 < measured.whole {
-        settle(&measured)
-    } else {
-        None
+    let measured = facing(measure(&p, &q, t));
+    if measured.whole <= 0 {
+        return None;
     }
+    settle(&measured)
 }

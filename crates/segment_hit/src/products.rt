@@ -1,9 +1,9 @@
 //! Exact products of differences of points. Two cross products serve all four determinants.
 
-ghost use Rattle.std.specs.Prelude.{◌≡◌, ◌≤◌, ◌-ℤ◌, ◌*ℤ◌, neg_ℤ, unsigned_abs};
+ghost use Rattle.std.specs.Prelude.{◌≡◌, ◌≤◌, ◌⊎◌, pos, ◌-ℤ◌, ◌*ℤ◌, ◌≤ℤ◌, neg_ℤ, unsigned_abs};
 ghost use Rattle.fixed_box.specs.World.{IsCoordinate, InWorld, TriInWorld};
 ghost use Rattle.segment_hit.specs.Vectors.{from_to, dot, cross};
-ghost use Rattle.segment_hit.specs.Determinants.{vector_of, area_of, whole_of, time_of, second_of, third_of};
+ghost use Rattle.segment_hit.specs.Determinants.{vector_of, area_of, AreDeterminantsOf, AreNegated};
 
 use crate::arithmetic::{minus, plus, times};
 use crate::vectors::{AREA, Area, Arrow, BAR, Determinants, SPAN, SQUARE, TWO_BARS, VOLUME};
@@ -79,10 +79,7 @@ pub fn measure(p: &Point, q: &Point, t: &Tri) -> Determinants
     requires p { InWorld p.now }
     requires q { InWorld q.now }
     requires t { TriInWorld t.now }
-    ensures whole { result.whole ≡ whole_of p.now q.now t.now }
-    ensures time { result.time ≡ time_of p.now t.now }
-    ensures second { result.second ≡ second_of p.now q.now t.now }
-    ensures third { result.third ≡ third_of p.now q.now t.now }
+    ensures { AreDeterminantsOf p.now q.now t.now result }
 {
     let way = between(p, q);
     let out = between(p, &t.a);
@@ -98,12 +95,8 @@ pub fn measure(p: &Point, q: &Point, t: &Tri) -> Determinants
     }
 }
 
-/// The same ratios over a `whole` of the other sign.
-pub fn reverse(m: &Determinants) -> Determinants
-    ensures whole { result.whole ≡ neg_ℤ m.now.whole }
-    ensures time { result.time ≡ neg_ℤ m.now.time }
-    ensures second { result.second ≡ neg_ℤ m.now.second }
-    ensures third { result.third ≡ neg_ℤ m.now.third }
+fn negated(m: &Determinants) -> Determinants
+    ensures { AreNegated m.now result }
 {
     Determinants {
         whole: opposite(m.whole),
@@ -111,4 +104,12 @@ pub fn reverse(m: &Determinants) -> Determinants
         second: opposite(m.second),
         third: opposite(m.third),
     }
+}
+
+/// The same ratios, over a `whole` that is not below 0.
+pub fn facing(m: Determinants) -> Determinants
+    ensures same_ratios { (result ≡ m) ⊎ AreNegated m result }
+    ensures front { pos 0 ≤ℤ result.whole }
+{
+    if m.whole < 0 { negated(&m) } else { m }
 }
