@@ -1,5 +1,5 @@
 -- The fraction of a hit: it is one, and it is from 0 to 1; zero is 0/1.
-use Rattle.std.proofs.Common.{◌≡◌, ◌∙◌, ℤ, pos, negsuc, ◌*ℤ◌, ◌≤ℤ◌, ◌<ℤ◌, unsigned_abs, arith, sym, ap, subst}
+use Rattle.std.proofs.Common.{◌≡◌, ◌∙◌, ℤ, pos, negsuc, ◌*ℤ◌, ◌≤ℤ◌, ◌<ℤ◌, unsigned_abs, arith, refl, sym, ap, subst, Option, Some, None, IsSomeAnd}
 use Rattle.std.specs.Int.{◌∣◌}
 use Rattle.std.proofs.lemmas.Int.{ints}
 use Rattle.std.proofs.lemmas.Nat.Gcd.{dvd_refl, dvd-zero}
@@ -10,7 +10,7 @@ use Rattle.segment_hit.proofs.Integers.{times_comm}
 use Rattle.segment_hit.proofs.Signs.{not_negative, at_most}
 use Rattle.segment_hit.proofs.Hits.{one_meeting, same_fraction, nonzero}
 use Rattle.segment_hit.proofs.FractionLaws.{same_fields}
-use Rattle.segment_hit.specs.Meeting.{IsHit, IsFraction}
+use Rattle.segment_hit.specs.Meeting.{MeetsAt, IsHit, IsFraction}
 use Rattle.segment_hit.specs.declared.fraction.Frac.{Frac}
 
 -- a fraction that is T/D and one that is an equal U/E are the same
@@ -24,6 +24,13 @@ same_of_equal f g T D U E d e s a b =
 pub one_hit : (p q : Point) (t : Tri) (f g : Frac) → IsHit p q t f → IsHit p q t g → f ≡ g
 one_hit p q t f g h k =
     same_of_equal f g h.0 h.1 k.0 k.1 h.2.positive k.2.positive (one_meeting p q t h.0 h.1 k.0 k.1 h.2 k.2) h.3 k.3
+
+-- each fraction at which the segment meets the triangle is what `hit` answers
+pub answer_is : (p q : Point) (t : Tri) (o : Option Frac) (f : Frac) →
+    ((T D : ℤ) → MeetsAt p q t T D → IsSomeAnd o (λ g. IsFraction g T D)) → IsHit p q t f → o ≡ Some f
+answer_is p q t None f only h = absurd (only h.0 h.1 h.2)
+answer_is p q t (Some g) f only h =
+    ap Some (same_of_equal g f h.0 h.1 h.0 h.1 h.2.positive h.2.positive refl (only h.0 h.1 h.2) h.3)
 
 -- a hit is not before the start
 pub hit_begun : (p q : Point) (t : Tri) (f : Frac) → IsHit p q t f → pos 0 ≤ℤ f.num
