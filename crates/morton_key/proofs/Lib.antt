@@ -1,0 +1,13 @@
+pub mod BitLaws
+pub mod PairedBits
+pub mod Tags
+pub mod KeyLaws
+pub mod GapLaws
+pub mod Spreading
+pub mod Weaving
+pub mod CodeLaws
+pub mod Numbers
+pub mod OrderLaws
+pub mod OneOrder
+pub mod SortedKeys
+pub mod LawfulTest
