@@ -8,11 +8,10 @@ use Rattle.streams.specs.Owed.{AppendsFront}
 use Rattle.streams.specs.Answers.{answers_from, state_after, lines_within, text_left}
 use Rattle.streams.specs.Taken.{Taken, IsPrompt}
 use Rattle.streams.proofs.Within.{not_less, is_less, within_whole, within_cut}
-use Rattle.world_engine.specs.declared.desk.Desk.{Desk}
 use Rattle.world_engine.specs.declared.limits.TheConstants.{UNIT, SCRIPT_MOST}
 use Rattle.world_engine.specs.declared.status.Status.{Status}
 use Rattle.world_engine.specs.declared.status.Status.TheVariants.{LinesRefused}
-use Rattle.world_engine.specs.Desks.{desk_text, desk_after}
+use Rattle.world_engine.specs.Desks.{DeskState, new_desk, desk_text, desk_after}
 use Rattle.world_engine.specs.Worlds.{WorldState, reply_of}
 use Rattle.world_engine.specs.Asks.{ask_of}
 use Rattle.world_engine.specs.Replies.{reply_text, is_refused}
@@ -20,7 +19,7 @@ use Rattle.world_engine.specs.Outputs.{replies_of, texts_from, script_output, wh
 use Rattle.world_engine.specs.Runs.{Fulfils, IsWhole, replies_to_ended}
 
 -- a desk's answers are the texts of the replies
-pub desk_answers : (desk : Desk) (number : ℕ) (lines : List (List ℕ)) → answers_from desk_text desk_after desk number lines ≡ texts_from number (replies_of desk.unit desk.world lines)
+pub desk_answers : (desk : DeskState) (number : ℕ) (lines : List (List ℕ)) → answers_from desk_text desk_after desk number lines ≡ texts_from number (replies_of desk.unit desk.world lines)
 desk_answers desk number [] = refl
 desk_answers desk number (line ∷ lines) = ap (λ k. reply_text number (reply_of desk.world (ask_of desk.unit line)) ++ k) (desk_answers (desk_after desk line) (number + 1) lines)
 
@@ -33,15 +32,11 @@ or_false true = refl
 or_false false = refl
 
 -- a desk knows whether some reply was a refusal
-pub desk_refusals : (desk : Desk) (lines : List (List ℕ)) → (state_after desk_after desk lines).refused ≡ desk.refused || list_any is_refused (replies_of desk.unit desk.world lines)
+pub desk_refusals : (desk : DeskState) (lines : List (List ℕ)) → (state_after desk_after desk lines).refused ≡ desk.refused || list_any is_refused (replies_of desk.unit desk.world lines)
 desk_refusals desk [] = sym (or_false desk.refused)
 desk_refusals desk (line ∷ lines) =
     desk_refusals (desk_after desk line) lines
     ∙ or_assoc desk.refused (is_refused (reply_of desk.world (ask_of desk.unit line))) (list_any is_refused (replies_of (desk_after desk line).unit (desk_after desk line).world lines))
-
--- the desk of a run that begins
-abbrev pub new_desk : WorldState → Desk
-new_desk world = record { world = world; unit = UNIT; refused = false }
 
 -- a longer text
 front_longer : (old now : Option (List ℕ)) (text more : List ℕ) → AppendsFront old now text → AppendsFront old now (text ++ more)
@@ -70,13 +65,13 @@ front_of_script world old now bytes p =
 
 -- a run that stopped with a status that says so fulfils the script's output
 pub script_stops : (world : WorldState) (old now left : Option (List ℕ)) (status : Status) → (IsWhole status → ⊥)
-    → IfSome left (λ bytes. AppendsFront old now (answers_from desk_text desk_after (new_desk world) 1 (lines_within SCRIPT_MOST bytes)))
+    → IfSome left (λ bytes. AppendsFront old now (answers_from desk_text desk_after (new_desk world UNIT) 1 (lines_within SCRIPT_MOST bytes)))
     → IfSome left (λ bytes. Fulfils (script_output UNIT world bytes) status old now)
 script_stops world old now None status stopped front = tt
 script_stops world old now (Some bytes) status stopped front = record {
   ended = λ w. absurd (stopped w);
   whole = λ w. absurd (stopped w);
-  front = front_of_script world old now bytes (subst (AppendsFront old now) (desk_answers (new_desk world) 1 (lines_within SCRIPT_MOST bytes)) front);
+  front = front_of_script world old now bytes (subst (AppendsFront old now) (desk_answers (new_desk world UNIT) 1 (lines_within SCRIPT_MOST bytes)) front);
 }
 
 -- a whole text is a front of itself
@@ -84,9 +79,9 @@ pub front_of_whole : (old now : Option (List ℕ)) (text : List ℕ) → Appends
 front_of_whole old now text p = ([], record { front = text; whole = sym (append-nil text); taken = p })
 
 -- a script within the limit that was answered to its end
-pub script_ends : (world : WorldState) (old now left : Option (List ℕ)) (desk : Desk) (status : Status) → status ≡ status_of desk.refused
-    → IfSome left (λ bytes. Appends old now (answers_from desk_text desk_after (new_desk world) 1 (lines_within SCRIPT_MOST bytes)))
-    → IfSome left (λ bytes. desk ≡ state_after desk_after (new_desk world) (lines_within SCRIPT_MOST bytes))
+pub script_ends : (world : WorldState) (old now left : Option (List ℕ)) (desk : DeskState) (status : Status) → status ≡ status_of desk.refused
+    → IfSome left (λ bytes. Appends old now (answers_from desk_text desk_after (new_desk world UNIT) 1 (lines_within SCRIPT_MOST bytes)))
+    → IfSome left (λ bytes. desk ≡ state_after desk_after (new_desk world UNIT) (lines_within SCRIPT_MOST bytes))
     → IfSome left (λ bytes. length bytes ≤ SCRIPT_MOST)
     → IfSome left (λ bytes. Fulfils (script_output UNIT world bytes) status old now)
 script_ends world old now None desk status is text state few = tt
@@ -95,9 +90,9 @@ script_ends world old now (Some bytes) desk status is text state few =
     let output : script_output UNIT world bytes ≡ whole_output (replies_of UNIT world (lines_of bytes)) =
     ap (λ b. cond b (cut_output (replies_of UNIT world (ended_lines (take SCRIPT_MOST bytes)))) (whole_output (replies_of UNIT world (lines_of bytes)))) (not_less SCRIPT_MOST (length bytes) few) in
     let written : Appends old now (texts_from 1 (replies_of UNIT world (lines_of bytes))) =
-    subst (Appends old now) (desk_answers (new_desk world) 1 (lines_within SCRIPT_MOST bytes) ∙ ap (λ k. texts_from 1 (replies_of UNIT world k)) lines) text in
+    subst (Appends old now) (desk_answers (new_desk world UNIT) 1 (lines_within SCRIPT_MOST bytes) ∙ ap (λ k. texts_from 1 (replies_of UNIT world k)) lines) text in
     let refused : desk.refused ≡ list_any is_refused (replies_of UNIT world (lines_of bytes)) =
-    ap (λ d. d.refused) state ∙ desk_refusals (new_desk world) (lines_within SCRIPT_MOST bytes) ∙ ap (λ k. list_any is_refused (replies_of UNIT world k)) lines in
+    ap (λ d. d.refused) state ∙ desk_refusals (new_desk world UNIT) (lines_within SCRIPT_MOST bytes) ∙ ap (λ k. list_any is_refused (replies_of UNIT world k)) lines in
     subst (λ o. Fulfils o status old now) (sym output) record {
       ended = λ w. is ∙ ap status_of refused;
       whole = λ w. written;
@@ -106,7 +101,7 @@ script_ends world old now (Some bytes) desk status is text state few =
 
 -- a longer script, of which word was written or not
 pub script_cut : (world : WorldState) (old mid now left : Option (List ℕ)) (status : Status)
-    → IfSome left (λ bytes. Appends old mid (answers_from desk_text desk_after (new_desk world) 1 (lines_within SCRIPT_MOST bytes)))
+    → IfSome left (λ bytes. Appends old mid (answers_from desk_text desk_after (new_desk world UNIT) 1 (lines_within SCRIPT_MOST bytes)))
     → IfSome left (λ bytes. SCRIPT_MOST < length bytes)
     → Fulfils (says (codes "script too long\n") LinesRefused) status mid now
     → IfSome left (λ bytes. Fulfils (script_output UNIT world bytes) status old now)
@@ -116,7 +111,7 @@ script_cut world old mid now (Some bytes) status text long said =
     let output : script_output UNIT world bytes ≡ cut_output replies =
     ap (λ b. cond b (cut_output replies) (whole_output (replies_of UNIT world (lines_of bytes)))) (is_less SCRIPT_MOST (length bytes) long) in
     let written : Appends old mid (texts_from 1 replies) =
-    subst (Appends old mid) (desk_answers (new_desk world) 1 (lines_within SCRIPT_MOST bytes) ∙ ap (λ k. texts_from 1 (replies_of UNIT world k)) (within_cut SCRIPT_MOST bytes long)) text in
+    subst (Appends old mid) (desk_answers (new_desk world UNIT) 1 (lines_within SCRIPT_MOST bytes) ∙ ap (λ k. texts_from 1 (replies_of UNIT world k)) (within_cut SCRIPT_MOST bytes long)) text in
     subst (λ o. Fulfils o status old now) (sym output) record {
       ended = λ w. said.ended w;
       whole = λ w. Appends-trans old mid now _ _ written (said.whole w);
@@ -124,15 +119,15 @@ script_cut world old mid now (Some bytes) status text long said =
     }
 
 -- a desk's answers to the lines that ended are the replies to them
-ended_answers : (world : WorldState) (bytes : List ℕ) → text_left desk_text desk_after (new_desk world) 1 false bytes ≡ replies_to_ended world bytes
-ended_answers world bytes = desk_answers (new_desk world) 1 (ended_lines bytes)
+ended_answers : (world : WorldState) (bytes : List ℕ) → text_left desk_text desk_after (new_desk world UNIT) 1 false bytes ≡ replies_to_ended world bytes
+ended_answers world bytes = desk_answers (new_desk world UNIT) 1 (ended_lines bytes)
 
 -- what was written when the script could not be read
-pub taken_replies : (world : WorldState) (left new old now : Option (List ℕ)) → Taken left new (λ front. Appends old now (text_left desk_text desk_after (new_desk world) 1 false front))
+pub taken_replies : (world : WorldState) (left new old now : Option (List ℕ)) → Taken left new (λ front. Appends old now (text_left desk_text desk_after (new_desk world UNIT) 1 false front))
     → Taken left new (λ front. Appends old now (replies_to_ended world front))
 taken_replies world left new old now p = subst (λ (f : List ℕ → List ℕ). Taken left new (λ front. Appends old now (f front))) (λ i. λ front. ended_answers world front i) p
 
 -- how far the script was read when a reply could not be written
-pub prompt_replies : (world : WorldState) (left new old now : Option (List ℕ)) → IsPrompt (text_left desk_text desk_after (new_desk world) 1 false) left new old now
+pub prompt_replies : (world : WorldState) (left new old now : Option (List ℕ)) → IsPrompt (text_left desk_text desk_after (new_desk world UNIT) 1 false) left new old now
     → IsPrompt (replies_to_ended world) left new old now
 prompt_replies world left new old now p = subst (λ (f : List ℕ → List ℕ). IsPrompt f left new old now) (λ i. λ front. ended_answers world front i) p

@@ -29,13 +29,13 @@ use streams::{LoadFault, Loaded, fetch_all};
 /// What is written is a function of words, files and script alone (`specs/Outputs`). A device that fails, or want of
 /// memory, ends the run at once; what was written is then a front of that text.
 pub fn run<R: Threads + Sync, H: Shelf, S: Source, K: Sink, G: Gate>(
-    _rt: &R,
+    rt: &R,
     alloc: Global,
     words: &[String],
     shelf: &mut H,
     script: &mut S,
     out: &mut K,
-    _gate: &G,
+    gate: &G,
 ) -> Status
     // The headline: as far as the devices tell what the output depends on, the run writes exactly the defined output,
     // with its status; or it stops with another status after a front of it.
@@ -75,11 +75,13 @@ pub fn run<R: Threads + Sync, H: Shelf, S: Source, K: Sink, G: Gate>(
     ensures source { S.faults script.old ≤ S.faults script.new }
     ensures sink { K.faults out.old ≤ K.faults out.new }
 {
-    run_words(alloc, words, shelf, script, out)
+    run_words(rt, gate, alloc, words, shelf, script, out)
 }
 
 /// Does all that the program does; `run` says what follows from it.
-fn run_words<H: Shelf, S: Source, K: Sink>(
+fn run_words<R: Threads + Sync, H: Shelf, S: Source, K: Sink, G: Gate>(
+    rt: &R,
+    gate: &G,
     alloc: Global,
     words: &[String],
     shelf: &mut H,
@@ -110,7 +112,7 @@ fn run_words<H: Shelf, S: Source, K: Sink>(
         return say(out, b"bad command line\n", Status::Usage);
     };
     match fetch_all(alloc, shelf, name, MOST_BYTES) {
-        Ok(Loaded::Whole(text)) => answer_mesh(alloc, text, script, out),
+        Ok(Loaded::Whole(text)) => answer_mesh(rt, gate, alloc, text, script, out),
         Ok(Loaded::TooLong) => say(out, b"mesh too long\n", Status::MeshRefused),
         Err(LoadFault::Read) => Status::ReadFault,
         Err(LoadFault::Memory) => Status::Memory,

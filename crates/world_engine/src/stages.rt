@@ -16,8 +16,9 @@ use crate::replies::refusal_text;
 use crate::status::Status;
 use crate::world::World;
 use obj_text::{MOST_BYTES, Mesh, MeshFault, Why, read_mesh};
-use outside::{Sink, Source};
+use outside::{Gate, Sink, Source};
 use std::alloc::Global;
+use std::thread::Threads;
 use streams::{Ended, Stop, answer_lines, write_all};
 
 /// Writes a text, and answers the status, or that the sink failed.
@@ -44,7 +45,9 @@ fn status_of(refused: bool) -> Status
 }
 
 /// Answers the script of a world.
-fn answer_script<S: Source, K: Sink>(
+fn answer_script<R: Threads + Sync, S: Source, K: Sink, G: Gate>(
+    rt: &R,
+    gate: &G,
     alloc: Global,
     world: World,
     script: &mut S,
@@ -63,13 +66,15 @@ fn answer_script<S: Source, K: Sink>(
     ensures sink { K.faults out.old ≤ K.faults out.new }
 {
     let desk = Desk {
+        rt,
+        gate,
         world,
         unit: UNIT,
         refused: false,
     };
     match answer_lines(alloc, desk, script, out, SCRIPT_MOST) {
         Ok(done) => match done.ended {
-            Ended::Whole => status_of(done.answerer.refused),
+            Ended::Whole => status_of(done.answerer.has_refused()),
             Ended::TooLong => say(out, b"script too long\n", Status::LinesRefused),
         },
         Err(Stop::Read) => Status::ReadFault,
@@ -88,7 +93,9 @@ fn open_mesh(alloc: Global, text: Vec<u8>) -> Result<Mesh, MeshFault>
 }
 
 /// Opens the world of a mesh text and answers the script in it.
-pub fn answer_mesh<S: Source, K: Sink>(
+pub fn answer_mesh<R: Threads + Sync, S: Source, K: Sink, G: Gate>(
+    rt: &R,
+    gate: &G,
     alloc: Global,
     text: Vec<u8>,
     script: &mut S,
@@ -118,7 +125,7 @@ pub fn answer_mesh<S: Source, K: Sink>(
     let Ok(world) = World::new(alloc, mesh) else {
         return Status::Memory;
     };
-    answer_script(alloc, world, script, out)
+    answer_script(rt, gate, alloc, world, script, out)
 }
 
 /// Writes word that the mesh is refused at a line.

@@ -1,15 +1,16 @@
-use Rattle.std.proofs.Common.{Err, ap, rules}
+use Rattle.std.proofs.Common.{Err, ap, ◌∙◌}
+use Rattle.world_engine.specs.Outputs.{status_of}
 use Rattle.streams.proofs.Prompt.{prompt_cut}
-use Rattle.world_engine.specs.Desks.{desk_text, desk_after}
-use Rattle.world_engine.specs.declared.limits.TheConstants.{SCRIPT_MOST}
-use Rattle.world_engine.proofs.DeskAnswers.{new_desk, script_stops, script_ends, script_cut, taken_replies, prompt_replies}
+use Rattle.world_engine.specs.Desks.{new_desk, desk_text, desk_after}
+use Rattle.world_engine.specs.declared.limits.TheConstants.{UNIT, SCRIPT_MOST}
+use Rattle.world_engine.proofs.DeskAnswers.{script_stops, script_ends, script_cut, taken_replies, prompt_replies}
 use Rattle.world_engine.proofs.Ends.{whole_is_within, too_long_is_past}
 use Rattle.world_engine.proofs.stages.answer_script.Goals as goal
 
 pub returns-in-Whole-clause-output : goal.returns-in-Whole-clause-output
 returns-in-Whole-clause-output g c =
     let did = c.in-Ok.ensures in
-    script_ends c.args.world _ _ _ c.in-Ok.done.answerer _ c.status_of.ensures did.text did.state (whole_is_within _ c.in-Ok.done.ended SCRIPT_MOST c.in-Whole.is did.ended)
+    script_ends c.args.world _ _ _ c.in-Ok.done.answerer _ (c.status_of.ensures ∙ ap status_of c.has_refused.ensures) did.text did.state (whole_is_within _ c.in-Ok.done.ended SCRIPT_MOST c.in-Whole.is did.ended)
 
 pub returns-in-Ok-clause-output : goal.returns-in-Ok-clause-output
 returns-in-Ok-clause-output g c =
@@ -20,7 +21,7 @@ pub returns-in-Ok-clause-prompt : goal.returns-in-Ok-clause-prompt
 returns-in-Ok-clause-prompt g c = λ status.
     let did = c.in-Ok.ensures in
     prompt_replies c.args.world _ _ _ _
-    (prompt_cut desk_text desk_after (new_desk c.args.world) _ _ _ _ _ SCRIPT_MOST _ did.taken (too_long_is_past _ c.in-Ok.done.ended SCRIPT_MOST c.in-TooLong.is did.ended) did.text
+    (prompt_cut desk_text desk_after (new_desk c.args.world UNIT) _ _ _ _ _ SCRIPT_MOST _ did.taken (too_long_is_past _ c.in-Ok.done.ended SCRIPT_MOST c.in-TooLong.is did.ended) did.text
     c.say.ensures.output.front)
 
 pub returns-in-Err-Read-clause-output : goal.returns-in-Err-Read-clause-output
