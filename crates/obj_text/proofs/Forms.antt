@@ -1,5 +1,6 @@
--- What a line that could be read gives: points of the world, corners that the text has, a vertex where its first word says so.
-use Rattle.std.proofs.Common.{◌≡◌, ℕ, ◌-◌, ◌<◌, ◌≤◌, Bool, true, false, List, [], ◌∷◌, ◌&&◌, cond, nat_lt, nat_le, length, refl, sym, ap, ◌∙◌, arith, Option, None, Some, ℤ, pos, neg_ℤ, ◌*ℤ◌, ◌≤ℤ◌, ◌<ℤ◌, int_le, int_lt, subst}
+-- What a line that could be read gives: points of the world, corners that the text has, a vertex where its first
+-- word says so.
+use Rattle.std.proofs.Common.{◌≡◌, ℕ, ◌-◌, ◌<◌, Bool, true, false, List, [], ◌∷◌, ◌&&◌, cond, nat_lt, nat_le, length, refl, arith, Option, None, Some, ℤ, pos, neg_ℤ, ◌*ℤ◌, int_le, int_lt, subst}
 use Rattle.std.specs.Prelude.{codes}
 use Rattle.std.specs.Str.{bytes_eq}
 use Rattle.std.specs.List.{All}
@@ -24,7 +25,8 @@ pub record IsRowOf (vertices : ℕ) (row : Row) : Type 0 where
   pub faces : All (IsFaceOf vertices) (faces_of row)
 
 -- the value behind a step that gave one
-pub onward_some : {A B : Type 0} (o : Option A) (f : A → Option B) (y : B) → onward o f ≡ Some y → (x : A) × (o ≡ Some x) × (f x ≡ Some y)
+pub onward_some : {A B : Type 0} (o : Option A) (f : A → Option B) (y : B) → onward o f ≡ Some y
+    → (x : A) × (o ≡ Some x) × (f x ≡ Some y)
 onward_some None f y e = absurd (cc)
 onward_some (Some x) f y e = (x, refl, e)
 
@@ -40,7 +42,9 @@ in_world_is x y e =
     subst IsCoordinate t.1 (record { low = grind (arith, ints, b.0); high = grind (arith, ints, b.1) })
 
 coordinate_is : (unit : ℕ) (word : List ℕ) (y : ℤ) → coordinate_of unit word ≡ Some y → IsCoordinate y
-coordinate_is unit word y e = let s = onward_some (signed_of COORDINATE_DIGITS word) _ y e in in_world_is (s.0 *ℤ pos unit) y s.2
+coordinate_is unit word y e =
+    let s = onward_some (signed_of COORDINATE_DIGITS word) _ y e in
+    in_world_is (s.0 *ℤ pos unit) y s.2
 
 below_of : (n k vertices : ℕ) → cond (nat_lt 0 n && nat_le n vertices) (Some (n - 1)) None ≡ Some k → k < vertices
 below_of n k vertices e =
@@ -49,7 +53,9 @@ below_of n k vertices e =
     grind (arith, nat_tests, b.0, b.1, t.1)
 
 position_is : (vertices : ℕ) (word : List ℕ) (k : ℕ) → position_of vertices word ≡ Some k → k < vertices
-position_is vertices word k e = let s = onward_some (number_of REFERENCE_DIGITS word) _ k e in below_of s.0 k vertices s.2
+position_is vertices word k e =
+    let s = onward_some (number_of REFERENCE_DIGITS word) _ k e in
+    below_of s.0 k vertices s.2
 
 point_is : (unit : ℕ) (x y z : List ℕ) (p : Point) → point_of unit x y z ≡ Some p → InWorld p
 point_is unit x y z p e =
@@ -58,7 +64,11 @@ point_is unit x y z p e =
     let u = onward_some (coordinate_of unit z) _ p t.2 in
     let q : Some (record { x = s.0; y = t.0; z = u.0 }) ≡ Some p = u.2 in
     let r : record { x = s.0; y = t.0; z = u.0 } ≡ p = cc in
-    subst InWorld r (record { x = coordinate_is unit x s.0 s.1; y = coordinate_is unit y t.0 t.1; z = coordinate_is unit z u.0 u.1 })
+    subst InWorld r (record {
+      x = coordinate_is unit x s.0 s.1;
+      y = coordinate_is unit y t.0 t.1;
+      z = coordinate_is unit z u.0 u.1;
+    })
 
 face_is : (vertices : ℕ) (x y z : List ℕ) (f : Face) → face_of vertices x y z ≡ Some f → IsFaceOf vertices f
 face_is vertices x y z f e =
@@ -67,35 +77,56 @@ face_is vertices x y z f e =
     let u = onward_some (position_of vertices z) _ f t.2 in
     let q : Some (record { a = s.0; b = t.0; c = u.0 }) ≡ Some f = u.2 in
     let r : record { a = s.0; b = t.0; c = u.0 } ≡ f = cc in
-    subst (IsFaceOf vertices) r (record { a = position_is vertices x s.0 s.1; b = position_is vertices y t.0 t.1; c = position_is vertices z u.0 u.1 })
+    subst (IsFaceOf vertices) r (record {
+      a = position_is vertices x s.0 s.1;
+      b = position_is vertices y t.0 t.1;
+      c = position_is vertices z u.0 u.1;
+    })
 
 -- a row that begins with `v` and could be read is a vertex of the world
-vertex_is : (unit vertices : ℕ) (words : List (List ℕ)) (row : Row) → vertex_of unit words ≡ Some row → (length (points_of row) ≡ 1) × IsRowOf vertices row
+vertex_is : (unit vertices : ℕ) (words : List (List ℕ)) (row : Row) → vertex_of unit words ≡ Some row
+    → (length (points_of row) ≡ 1) × IsRowOf vertices row
 vertex_is unit vertices words row e =
     let s = onward_some (three_of words) _ row e in
     let t = onward_some (point_of unit s.0.0 s.0.1 s.0.2) _ row s.2 in
     let r : Vertex t.0 ≡ row = cc in
-    subst (λ r. (length (points_of r) ≡ 1) × IsRowOf vertices r) r
-    (refl, record { points = All-cons InWorld t.0 [] (point_is unit s.0.0 s.0.1 s.0.2 t.0 t.1) (All-nil InWorld); faces = All-nil (IsFaceOf vertices) })
+    subst (λ r. (length (points_of r) ≡ 1) × IsRowOf vertices r) r (
+      refl,
+      record {
+        points = All-cons InWorld t.0 [] (point_is unit s.0.0 s.0.1 s.0.2 t.0 t.1) (All-nil InWorld);
+        faces = All-nil (IsFaceOf vertices);
+      },
+    )
 
 -- a row that begins with `f` and could be read is a face of the text
-triangle_is : (vertices : ℕ) (words : List (List ℕ)) (row : Row) → triangle_of vertices words ≡ Some row → (length (points_of row) ≡ 0) × IsRowOf vertices row
+triangle_is : (vertices : ℕ) (words : List (List ℕ)) (row : Row) → triangle_of vertices words ≡ Some row
+    → (length (points_of row) ≡ 0) × IsRowOf vertices row
 triangle_is vertices words row e =
     let s = onward_some (three_of words) _ row e in
     let t = onward_some (face_of vertices s.0.0 s.0.1 s.0.2) _ row s.2 in
     let r : Triangle t.0 ≡ row = cc in
-    subst (λ r. (length (points_of r) ≡ 0) × IsRowOf vertices r) r
-    (refl, record { points = All-nil InWorld; faces = All-cons (IsFaceOf vertices) t.0 [] (face_is vertices s.0.0 s.0.1 s.0.2 t.0 t.1) (All-nil (IsFaceOf vertices)) })
+    subst (λ r. (length (points_of r) ≡ 0) × IsRowOf vertices r) r (
+      refl,
+      record {
+        points = All-nil InWorld;
+        faces = All-cons (IsFaceOf vertices) t.0 [] (face_is vertices s.0.0 s.0.1 s.0.2 t.0 t.1)
+            (All-nil (IsFaceOf vertices));
+      },
+    )
 
 by_words : (unit vertices : ℕ) (words : List (List ℕ)) (row : Row) (v f : Bool)
-    → cond v (vertex_of unit words) (cond f (triangle_of vertices words) None) ≡ Some row → (length (points_of row) ≡ cond v 1 0) × IsRowOf vertices row
+    → cond v (vertex_of unit words) (cond f (triangle_of vertices words) None) ≡ Some row
+    → (length (points_of row) ≡ cond v 1 0) × IsRowOf vertices row
 by_words unit vertices words row true f e = vertex_is unit vertices words row e
 by_words unit vertices words row false true e = triangle_is vertices words row e
 by_words unit vertices words row false false e = absurd (cc)
 
 -- a row that could be read gives a vertex exactly where its first word is `v`, and is lawful
-pub row_is : (unit vertices : ℕ) (words : List (List ℕ)) (row : Row) → row_of unit vertices words ≡ Some row → (length (points_of row) ≡ cond (is_vertex words) 1 0) × IsRowOf vertices row
+pub row_is : (unit vertices : ℕ) (words : List (List ℕ)) (row : Row) → row_of unit vertices words ≡ Some row
+    → (length (points_of row) ≡ cond (is_vertex words) 1 0) × IsRowOf vertices row
 row_is unit vertices [] row e =
     let r : Nothing ≡ row = cc in
-    subst (λ r. (length (points_of r) ≡ 0) × IsRowOf vertices r) r (refl, record { points = All-nil InWorld; faces = All-nil (IsFaceOf vertices) })
-row_is unit vertices (word ∷ words) row e = by_words unit vertices words row (bytes_eq word (codes "v")) (bytes_eq word (codes "f")) e
+    subst (λ r. (length (points_of r) ≡ 0) × IsRowOf vertices r) r
+    (refl, record { points = All-nil InWorld; faces = All-nil (IsFaceOf vertices) })
+row_is unit vertices (word ∷ words) row e =
+    by_words unit vertices words row (bytes_eq word (codes "v")) (bytes_eq word (codes "f")) e

@@ -24,7 +24,8 @@ coordinate_of unit word = onward (signed_of COORDINATE_DIGITS word) (λ n. in_wo
 
 -- the position of the vertex that a word names, of so many vertices; words count from 1, positions from 0
 abbrev pub position_of : ℕ → List ℕ → Option ℕ
-position_of vertices word = onward (number_of REFERENCE_DIGITS word) (λ n. if nat_lt 0 n && nat_le n vertices then Some (n - 1) else None)
+position_of vertices word =
+    onward (number_of REFERENCE_DIGITS word) (λ n. if nat_lt 0 n && nat_le n vertices then Some (n - 1) else None)
 
 -- the words, where they are exactly three
 abbrev pub three_of : List (List ℕ) → Option (List ℕ × List ℕ × List ℕ)
@@ -34,12 +35,16 @@ three_of words = None
 -- the point that three words write
 abbrev pub point_of : ℕ → List ℕ → List ℕ → List ℕ → Option Point
 point_of unit x y z =
-    onward (coordinate_of unit x) (λ a. onward (coordinate_of unit y) (λ b. onward (coordinate_of unit z) (λ c. Some (record { x = a; y = b; z = c }))))
+    onward (coordinate_of unit x) (λ a.
+    onward (coordinate_of unit y) (λ b.
+    onward (coordinate_of unit z) (λ c. Some (record { x = a; y = b; z = c }))))
 
 -- the face whose corners three words name
 abbrev pub face_of : ℕ → List ℕ → List ℕ → List ℕ → Option Face
 face_of vertices x y z =
-    onward (position_of vertices x) (λ i. onward (position_of vertices y) (λ j. onward (position_of vertices z) (λ k. Some (record { a = i; b = j; c = k }))))
+    onward (position_of vertices x) (λ i.
+    onward (position_of vertices y) (λ j.
+    onward (position_of vertices z) (λ k. Some (record { a = i; b = j; c = k }))))
 
 -- what stands behind the word `v`
 abbrev pub vertex_of : ℕ → List (List ℕ) → Option Row
@@ -47,13 +52,15 @@ vertex_of unit words = onward (three_of words) (λ t. onward (point_of unit t.0 
 
 -- what stands behind the word `f`
 abbrev pub triangle_of : ℕ → List (List ℕ) → Option Row
-triangle_of vertices words = onward (three_of words) (λ t. onward (face_of vertices t.0 t.1 t.2) (λ f. Some (Triangle f)))
+triangle_of vertices words =
+    onward (three_of words) (λ t. onward (face_of vertices t.0 t.1 t.2) (λ f. Some (Triangle f)))
 
 -- the row of a text with so many vertices, read; `None` where it cannot be read
 abbrev pub row_of : ℕ → ℕ → List (List ℕ) → Option Row
 row_of unit vertices [] = Some Nothing
 row_of unit vertices (word ∷ words) =
-    if bytes_eq word (codes "v") then vertex_of unit words else (if bytes_eq word (codes "f") then triangle_of vertices words else None)
+    if bytes_eq word (codes "v") then vertex_of unit words
+    else (if bytes_eq word (codes "f") then triangle_of vertices words else None)
 
 -- the row begins with the word `v`, whether it can be read or not
 abbrev pub is_vertex : List (List ℕ) → Bool

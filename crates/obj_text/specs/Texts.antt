@@ -36,7 +36,8 @@ faces_in [] = []
 faces_in (None ∷ rows) = faces_in rows
 faces_in (Some row ∷ rows) = faces_of row ++ faces_in rows
 
--- the number of the first row that cannot be read or is one too many, where the first has this number and so many points and faces stand before it
+-- the number of the first row that cannot be read or is one too many, where the first has this number and so many
+-- points and faces stand before it
 abbrev pub first_faulty : ℕ → ℕ → ℕ → List (Option Row) → Option ℕ
 first_faulty number points faces [] = None
 first_faulty number points faces (None ∷ rows) = Some number

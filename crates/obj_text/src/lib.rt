@@ -1,4 +1,6 @@
 //! Meshes as text: the lines `v` and `f` of Wavefront OBJ, read into points of the grid and faces over them.
+//!
+//! What a text's mesh is, or which of its lines cannot be read, is defined over the whole text at once.
 #![tactic(auto)]
 
 mod face;

@@ -17,6 +17,10 @@ use std::alloc::{AllocError, Global};
 use text_words::Lines;
 
 /// Reads a mesh text, with `unit` grid steps to each unit of its coordinates.
+///
+/// A line `v x y z` gives a point and a line `f a b c` a face; `specs/Rows` and the README have the two forms. Vertices
+/// count from 1 in the text, and a face may stand before those that it names. `MeshFault::Line` names the first line
+/// that cannot be read, counted from 1.
 pub fn read_mesh(alloc: Global, bytes: &[u8], unit: u32) -> Result<Mesh, MeshFault>
     requires few { length bytes.now ≤ MOST_BYTES }
     requires least_unit { 1 ≤ unit }

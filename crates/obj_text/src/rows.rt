@@ -1,10 +1,7 @@
 //! One line of a mesh text, read. A line's form is seen from its words alone; what it may name depends on how many
 //! vertices the whole text has, so a face may stand before its vertices.
 
-ghost use Rattle.std.specs.Prelude.{◌≡◌, ◌≤◌, ◌∷◌, [], IfSome, MatchOption};
-ghost use Rattle.fixed_box.specs.World.{IsCoordinate, InWorld};
-ghost use Rattle.text_words.specs.Lines.{words_of, without_comment};
-ghost use Rattle.obj_text.specs.Meshes.{IsFaceOf};
+ghost use Rattle.std.specs.Prelude.{◌≡◌, ◌≤◌, ◌∷◌, [], MatchOption};
 ghost use Rattle.obj_text.specs.Rows.{in_world, coordinate_of, position_of, three_of, point_of, face_of, row_of, vertex_of, triangle_of, is_vertex, has_room};
 ghost use Rattle.obj_text.specs.Texts.{row_words};
 

@@ -60,12 +60,9 @@ fn a_text_gives_its_points_in_grid_steps_and_its_faces(rt: HostRuntime) {
         &[(0, 1, 2)],
         "the face before its vertices",
     );
-    let spaced = read_text(
-        &rt,
-        rt.alloc(),
-        b"# level\r\n\r\n\tv\x0b-007\x0c000000 \t 131071#\r\nv 1 2 -131072 # f 9\nf 2 0000001 1\r",
-        1,
-    );
+    let text =
+        b"# level\r\n\r\n\tv\x0b-007\x0c000000 \t 131071#\r\nv 1 2 -131072 # f 9\nf 2 0000001 1\r";
+    let spaced = read_text(&rt, rt.alloc(), text, 1);
     is_mesh(
         &rt,
         spaced,

@@ -1,8 +1,9 @@
 -- The lines of a text, what stands in a line before its comment, and the words of a line.
-use Rattle.std.specs.Prelude.{◌≡◌, ◌<◌, ◌++◌, ⊤, ℕ, Bool, true, false, List, [], ◌∷◌, ◌==◌, ◌||◌, not, filter, length, IsTrue, if◌then◌else◌}
+use Rattle.std.specs.Prelude.{ℕ, Bool, true, false, List, [], ◌∷◌, ◌==◌, ◌||◌, not, filter, IsTrue, if◌then◌else◌}
 use Rattle.std.specs.List.{slice_split, list_all}
 
--- a byte before a list of lines: it begins the first line, and where there is no line it is one only if an unfinished line counts
+-- a byte before a list of lines: it begins the first line, and where there is no line it is one only if an
+-- unfinished line counts
 abbrev pub onto_line : Bool → ℕ → List (List ℕ) → List (List ℕ)
 onto_line unfinished b (line ∷ lines) = (b ∷ line) ∷ lines
 onto_line true b [] = (b ∷ []) ∷ []
@@ -11,7 +12,8 @@ onto_line false b [] = []
 -- a text cut at line feeds, with or without an unfinished last line
 abbrev pub cut_lines : Bool → List ℕ → List (List ℕ)
 cut_lines unfinished [] = []
-cut_lines unfinished (b ∷ bs) = if b == 10 then [] ∷ cut_lines unfinished bs else onto_line unfinished b (cut_lines unfinished bs)
+cut_lines unfinished (b ∷ bs) =
+    if b == 10 then [] ∷ cut_lines unfinished bs else onto_line unfinished b (cut_lines unfinished bs)
 
 -- all lines, an unfinished last one among them; after a line feed at the end there is no further line
 abbrev pub lines_of : List ℕ → List (List ℕ)

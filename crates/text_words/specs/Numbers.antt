@@ -15,7 +15,8 @@ value_after n (b ∷ bs) = value_after (n * 10 + (b - 48)) bs
 
 -- the value of a word of 1 to `most` digits
 abbrev pub number_of : ℕ → List ℕ → Option ℕ
-number_of most word = if is_word word && nat_le (length word) most && list_all is_digit word then Some (value_after 0 word) else None
+number_of most word =
+    if is_word word && nat_le (length word) most && list_all is_digit word then Some (value_after 0 word) else None
 
 -- the word begins with '-'
 abbrev pub starts_minus : List ℕ → Bool
@@ -25,4 +26,5 @@ starts_minus (b ∷ bs) = b == 45
 -- the value of a word of 1 to `most` digits behind an optional minus
 abbrev pub signed_of : ℕ → List ℕ → Option ℤ
 signed_of most word =
-    option_map (λ n. if starts_minus word then neg_ℤ (pos n) else pos n) (number_of most (if starts_minus word then drop 1 word else word))
+    option_map (λ n. if starts_minus word then neg_ℤ (pos n) else pos n)
+    (number_of most (if starts_minus word then drop 1 word else word))

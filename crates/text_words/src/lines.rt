@@ -55,7 +55,8 @@ fn next_line(text: &[u8]) -> (&[u8], &[u8])
 
 /// What stands before the first line feed and behind it, or `None` where there is none.
 pub fn first_line(text: &[u8]) -> Option<(&[u8], &[u8])>
-    ensures { MatchOption result (IsOneLine text.now) (λ parts. IsOneLine parts.0.now × (text.now ≡ parts.0.now ++ 10 ∷ parts.1.now)) }
+    ensures { MatchOption result (IsOneLine text.now) (λ parts.
+        IsOneLine parts.0.now × (text.now ≡ parts.0.now ++ 10 ∷ parts.1.now)) }
 {
     for (at, b) in text.iter().enumerate() {
         if *b == b'\n' {

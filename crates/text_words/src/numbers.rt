@@ -4,7 +4,7 @@ ghost use Rattle.std.specs.Prelude.{◌≡◌, ◌<◌, ◌≤◌, ◌^◌, leng
 ghost use Rattle.std.specs.List.{list_all};
 ghost use Rattle.text_words.specs.Numbers.{number_of, signed_of, value_after, is_digit, starts_minus};
 
-/// The number that a word of 1 to `most` digits writes, or `None` at any other word. Leading zeros are digits as others.
+/// The number that a word of 1 to `most` digits writes, or `None` at any other word. Leading zeros count as digits.
 pub fn number(word: &[u8], most: usize) -> Option<u32>
     requires { most ≤ 9 }
     ensures value { result ≡ number_of most word.now }
