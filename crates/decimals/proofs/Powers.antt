@@ -1,0 +1,58 @@
+-- Powers of ten against the limits.
+use Rattle.std.proofs.Common.{arith, suc, zero, ◌≡◌, ◌≤◌, ◌<◌, ◌*◌, ◌^◌, ◌+◌, ◌-◌, List, [], ◌∷◌, length, get_or, min, ℕ, refl, ap, ◌∙◌}
+use Rattle.decimals.specs.declared.limits.TheConstants.{POWERS}
+use Rattle.std.proofs.Math.Nat.{pow-le-pow_right, mul-le-mul_right, le_of_lt}
+
+-- a power of ten is above 0
+pub power_some : (t : ℕ) → 0 < 10 ^ t
+power_some t = let p : 10 ^ 0 ≤ 10 ^ t = pow-le-pow_right {n = 10} (omega arith) {i = 0} {j = t} (omega arith) in omega arith
+
+-- powers that fit 64 and 128 bits
+pub power_few : (t : ℕ) → t ≤ 18 → 10 ^ t ≤ 1000000000000000000
+power_few t few = pow-le-pow_right {n = 10} (omega arith) {i = t} {j = 18} few
+
+pub power_most : (t : ℕ) → t ≤ 34 → 10 ^ t ≤ 10000000000000000000000000000000000
+power_most t few = pow-le-pow_right {n = 10} (omega arith) {i = t} {j = 34} few
+
+-- powers that are past every value
+pub power_great : (t : ℕ) → 12 < t → 10000000000000 ≤ 10 ^ t
+power_great t more = pow-le-pow_right {n = 10} (omega arith) {i = 13} {j = t} (omega arith)
+
+pub power_past : (t : ℕ) → 34 < t → 100000000000000000000000000000000000 ≤ 10 ^ t
+power_past t more = pow-le-pow_right {n = 10} (omega arith) {i = 35} {j = t} (omega arith)
+
+-- some number of grid steps times a power that is past every value is so too
+pub raised_past : (n t : ℕ) → 0 < n → 12 < t → 1099511627776 ≤ n * 10 ^ t
+raised_past n t some more =
+    let one : 1 * 10 ^ t ≤ n * 10 ^ t = mul-le-mul_right (10 ^ t) some in
+    omega (arith, power_great t more, one)
+
+-- digits and a unit of at most 32 bits fit 112 bits
+pub units_small : (m unit : ℕ) → m < 1000000000000000000000000 → unit < 2 ^ 32 → m * unit < 5192296858534827628530496329220096
+units_small m unit few narrow =
+    let near : m * unit ≤ 1000000000000000000000000 * unit = mul-le-mul_right unit (le_of_lt few) in
+    omega (arith, near, narrow)
+
+-- the greatest value, where a power is past every value
+pub greatest_past : (n t : ℕ) → (n ≡ 0 → ⊥) → 12 < t → 1099511627776 ≡ min (n * 10 ^ t) 1099511627776
+greatest_past zero t some more = absurd (some refl)
+greatest_past (suc n) t some more =
+    let p : 1099511627776 ≤ suc n * 10 ^ t = raised_past (suc n) t (omega arith) more in
+    omega (arith, p)
+
+-- the numbers are the powers of ten from this one on
+abbrev ArePowers : ℕ → List ℕ → Type 0
+ArePowers k [] = Unit {0}
+ArePowers k (x ∷ xs) = (x ≡ 10 ^ k) × ArePowers (k + 1) xs
+
+power_among : (k i : ℕ) (xs : List ℕ) → ArePowers k xs → i < length xs → get_or xs i 0 ≡ 10 ^ (k + i)
+power_among k i [] p less = absurd (omega arith)
+power_among k zero (x ∷ xs) p less = p.0 ∙ ap (λ j. 10 ^ j) (let e : k ≡ k + 0 = omega arith in e)
+power_among k (suc i) (x ∷ xs) p less = power_among (k + 1) i xs p.1 (omega arith) ∙ ap (λ j. 10 ^ j) (let e : (k + 1) + i ≡ k + suc i = omega arith in e)
+
+table : ArePowers 0 POWERS
+table = (refl, (refl, (refl, (refl, (refl, (refl, (refl, (refl, (refl, (refl, (refl, (refl, (refl, (refl, (refl, (refl, (refl, (refl, (refl, tt {0})))))))))))))))))))
+
+-- the table of powers
+pub power_at : (i : ℕ) → i ≤ 18 → get_or POWERS i 0 ≡ 10 ^ i
+power_at i few = power_among 0 i POWERS table (omega arith) ∙ ap (λ j. 10 ^ j) (let e : 0 + i ≡ i = omega arith in e)

@@ -1,0 +1,4 @@
+pub mod Decimals
+pub mod Fractions
+pub mod Values
+pub mod Rounding
