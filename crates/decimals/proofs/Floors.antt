@@ -1,21 +1,24 @@
 -- The nearest grid step, with its sign apart.
-use Rattle.std.proofs.Common.{arith, suc, zero, ◌≡◌, ◌≤◌, ◌<◌, ◌*◌, ◌/◌, ◌^◌, ◌+◌, ◌-◌, cond, min, nat_lt, ℕ, Bool, true, false, refl, sym, ap, ◌∙◌, ℤ, pos, negsuc, neg_ℤ, ◌+ℤ◌, ◌*ℤ◌}
+use Rattle.std.proofs.Common.{arith, suc, zero, ◌≡◌, ◌≤◌, ◌<◌, ◌*◌, ◌/◌, ◌^◌, ◌+◌, ◌-◌, cond, min, nat_lt, ℕ, Bool, true, false, refl, sym, ap, ◌∙◌, ℤ, pos, negsuc, neg_ℤ, ◌+ℤ◌, ◌*ℤ◌, ◌≤ℤ◌, ◌<ℤ◌}
 use Rattle.std.specs.Int.{int_div_euclid}
-use Rattle.std.proofs.Math.Nat.{div-eq_of_lt, add-mul-div_right}
+use Rattle.std.proofs.Math.Nat.{div-eq_of_lt, add-mul-div_right, div-mul-le_self, lt-div-mul-add}
 use Rattle.std.proofs.lemmas.Int.{ints, clamps}
 use borrow.Author.Tests.{ltb-true, ltb-false}
 use Rattle.decimals.specs.Fractions.{floor, nearest_step, scaled, with_sign}
 use Rattle.decimals.specs.Values.{brought_in}
 use Rattle.decimals.specs.Rounding.{rounded}
+use Rattle.decimals.specs.declared.limits.TheConstants.{GREATEST}
 use Rattle.decimals.proofs.Powers.{power_some}
 
 one_more_down : (x d : ℕ) → 0 < d → (x + 2 * d) / (2 * d) ≡ suc (x / (2 * d))
 one_more_down x d some =
     let once : x + 2 * d ≡ x + 1 * (2 * d) = omega arith in
-    ap (λ k. k / (2 * d)) once ∙ add-mul-div_right x 1 {z = 2 * d} (omega arith) ∙ (let e : x / (2 * d) + 1 ≡ suc (x / (2 * d)) = omega arith in e)
+    ap (λ k. k / (2 * d)) once ∙ add-mul-div_right x 1 {z = 2 * d} (omega arith)
+    ∙ (let e : x / (2 * d) + 1 ≡ suc (x / (2 * d)) = omega arith in e)
 
 below_by : (m d : ℕ) (k : Bool) → nat_lt d (suc m) ≡ k → 0 < d
-    → int_div_euclid (cond k (negsuc (suc m - suc d)) (pos (d - suc m))) (pos (2 * d)) ≡ neg_ℤ (pos ((suc m + d - 1) / (2 * d)))
+    → int_div_euclid (cond k (negsuc (suc m - suc d)) (pos (d - suc m))) (pos (2 * d))
+    ≡ neg_ℤ (pos ((suc m + d - 1) / (2 * d)))
 below_by m d true e some =
     let less : d < suc m = ltb-true d (suc m) e in
     let whole : suc m + d - 1 ≡ (suc m - suc d) + 2 * d = omega (arith, less) in
@@ -51,14 +54,28 @@ nearest_rounds true unit v d some =
     ∙ ap (λ k. neg_ℤ (pos ((k + d - 1) / (2 * d)))) e
 
 -- a value that is brought in, with its sign
-pub brought_in_signed : (minus : Bool) (n : ℕ) → brought_in (with_sign minus n) ≡ with_sign minus (min n 1099511627776)
+pub brought_in_signed : (minus : Bool) (n : ℕ) → brought_in (with_sign minus n) ≡ with_sign minus (min n GREATEST)
 brought_in_signed false n = omega (arith, ints, clamps)
 brought_in_signed true n = omega (arith, ints, clamps)
 
 -- a grid value, with its sign apart
 pub value_is : (minus : Bool) (unit value places raised lowered : ℕ)
     → brought_in (nearest_step unit (scaled minus value places raised lowered))
-    ≡ with_sign minus (min (rounded minus (value * 10 ^ raised * unit) (10 ^ (places + lowered))) 1099511627776)
+    ≡ with_sign minus (min (rounded minus (value * 10 ^ raised * unit) (10 ^ (places + lowered))) GREATEST)
 value_is minus unit value places raised lowered =
-    ap brought_in (nearest_rounds minus unit (value * 10 ^ raised) (10 ^ (places + lowered)) (power_some (places + lowered)))
+    ap brought_in
+    (nearest_rounds minus unit (value * 10 ^ raised) (10 ^ (places + lowered)) (power_some (places + lowered)))
     ∙ brought_in_signed minus (rounded minus (value * 10 ^ raised * unit) (10 ^ (places + lowered)))
+
+floor_law_above : (a b q : ℕ) → q * b ≤ a → a < q * b + b
+    → ((pos b *ℤ pos q) ≤ℤ pos a) × (pos a <ℤ (pos b *ℤ (pos q +ℤ pos 1)))
+floor_law_above a b q low high = (grind (arith, ints, low), grind (arith, ints, high))
+
+floor_law_below : (a b q : ℕ) → q * b ≤ a → a < q * b + b → ((pos b *ℤ negsuc q) ≤ℤ negsuc a)
+    × (negsuc a <ℤ (pos b *ℤ (negsuc q +ℤ pos 1)))
+floor_law_below a b q low high = (grind (arith, ints, high), grind (arith, ints, low))
+
+-- what the definitions round down to is the floor
+pub floor_is : (a : ℤ) (b : ℕ) → 0 < b → ((pos b *ℤ floor a b) ≤ℤ a) × (a <ℤ (pos b *ℤ (floor a b +ℤ pos 1)))
+floor_is (pos a) b some = floor_law_above a b (a / b) (div-mul-le_self a b) (lt-div-mul-add {a = a} {b = b} some)
+floor_is (negsuc a) b some = floor_law_below a b (a / b) (div-mul-le_self a b) (lt-div-mul-add {a = a} {b = b} some)

@@ -3,6 +3,7 @@ use Rattle.std.proofs.Common.{arith, ◌≡◌, ◌≤◌, ◌<◌, ◌*◌, ◌
 use Rattle.std.proofs.Math.Nat.{pow-le-pow_right, mul-le-mul_right}
 use Rattle.std.proofs.lemmas.Bool.Decides.{nat_tests}
 use Rattle.text_words.specs.Numbers.{is_digit, value_after}
+use Rattle.decimals.specs.declared.limits.TheConstants.{PAST_MOST_DIGITS}
 use Rattle.decimals.specs.Decimals.{digits_of, fraction_of, whole_part, fraction_part, mantissa_digits, past_sign, past_digits, significant, is_too_long}
 
 -- each is a digit
@@ -51,34 +52,38 @@ first_digit d t v some few p q =
     (omega arith, omega arith)
 
 -- a number of n + 1 digits, of which the first is not '0'
-long_first : (n v : ℕ) → 10 ^ n ≤ v → v < 10 * 10 ^ n → nat_lt 24 (n + 1) ≡ nat_le 1000000000000000000000000 v
+long_first : (n v : ℕ) → 10 ^ n ≤ v → v < 10 * 10 ^ n → nat_lt 24 (n + 1) ≡ nat_le PAST_MOST_DIGITS v
 long_first n v low high = elim (power_cases n) [
   | inl p ↦ (let more = p.0 in let big = p.1 in grind (arith, nat_tests))
   | inr p ↦ (let less = p.0 in let small = p.1 in grind (arith, nat_tests))
 ]
 
 long_by : (b : ℕ) (bs : List ℕ) (k : Bool) → (b == 48) ≡ k → AreDigits (b ∷ bs)
-    → is_too_long bs ≡ nat_le 1000000000000000000000000 (value_after 0 bs)
-    → nat_lt 24 (length (cond k (significant bs) (b ∷ bs))) ≡ nat_le 1000000000000000000000000 (value_after (0 * 10 + (b - 48)) bs)
+    → is_too_long bs ≡ nat_le PAST_MOST_DIGITS (value_after 0 bs)
+    → nat_lt 24 (length (cond k (significant bs) (b ∷ bs)))
+    ≡ nat_le PAST_MOST_DIGITS (value_after (0 * 10 + (b - 48)) bs)
 long_by b bs true e p later =
     let none : b ≡ 48 = grind (arith, e) in
     let nil : 0 ≡ 0 * 10 + (b - 48) = omega (arith, none) in
-    later ∙ ap (λ d. nat_le 1000000000000000000000000 (value_after d bs)) nil
+    later ∙ ap (λ d. nat_le PAST_MOST_DIGITS (value_after d bs)) nil
 long_by b bs false e p later =
-    let some : b ≡ 48 → ⊥ = λ f. absurd (let no : (b == 48) ≡ true = eq-eqb b 48 f in let both : true ≡ false = sym no ∙ e in cc) in
-    let above : 1 ≤ 0 * 10 + (b - 48) = grind (arith, some, p.0) in
-    let few : 0 * 10 + (b - 48) ≤ 9 = omega (arith, p.1) in
-    let q = bounds (0 * 10 + (b - 48)) bs p.2 in
-    let r = first_digit (0 * 10 + (b - 48)) (10 ^ length bs) (value_after (0 * 10 + (b - 48)) bs) above few q.0 q.1 in
+    let no : (b ≡ 48) → (true ≡ false) = λ f. sym (eq-eqb b 48 f) ∙ e in
+    let some : b ≡ 48 → ⊥ = λ f. (let both : true ≡ false = no f in cc) in
+    let d = 0 * 10 + (b - 48) in
+    let above : 1 ≤ d = grind (arith, some, p.0) in
+    let few : d ≤ 9 = omega (arith, p.1) in
+    let q = bounds d bs p.2 in
+    let r = first_digit d (10 ^ length bs) (value_after d bs) above few q.0 q.1 in
     let one : length (b ∷ bs) ≡ length bs + 1 = omega arith in
-    ap (λ k. nat_lt 24 k) one ∙ long_first (length bs) (value_after (0 * 10 + (b - 48)) bs) r.0 r.1
+    ap (λ k. nat_lt 24 k) one ∙ long_first (length bs) (value_after d bs) r.0 r.1
 
 -- too many significant digits are a number that is too large
-pub too_long_is : (ds : List ℕ) → AreDigits ds → is_too_long ds ≡ nat_le 1000000000000000000000000 (value_after 0 ds)
+pub too_long_is : (ds : List ℕ) → AreDigits ds → is_too_long ds ≡ nat_le PAST_MOST_DIGITS (value_after 0 ds)
 too_long_is [] p = refl
 too_long_is (b ∷ bs) p = long_by b bs (b == 48) refl p (too_long_is bs p.2)
 
-digits_by : (b : ℕ) (bs : List ℕ) (k : Bool) → is_digit b ≡ k → AreDigits (digits_of bs) → AreDigits (cond k (b ∷ digits_of bs) [])
+digits_by : (b : ℕ) (bs : List ℕ) (k : Bool) → is_digit b ≡ k → AreDigits (digits_of bs)
+    → AreDigits (cond k (b ∷ digits_of bs) [])
 digits_by b bs true e p = (grind (arith, nat_tests, e), grind (arith, nat_tests, e), p)
 digits_by b bs false e p = tt {0}
 
@@ -101,4 +106,6 @@ both_are (b ∷ bs) ys p q = (p.0, p.1, both_are bs ys p.2 q)
 
 -- the digits of a word are digits
 pub mantissa_are : (word : List ℕ) → AreDigits (mantissa_digits word)
-mantissa_are word = both_are (whole_part word) (fraction_part word) (digits_are (past_sign word)) (fraction_are (past_digits (past_sign word)))
+mantissa_are word =
+    both_are (whole_part word) (fraction_part word) (digits_are (past_sign word))
+    (fraction_are (past_digits (past_sign word)))

@@ -6,3 +6,4 @@ pub mod Scales
 pub mod Caps
 pub mod Words
 pub mod Wholes
+mod Examples

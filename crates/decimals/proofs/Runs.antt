@@ -15,7 +15,8 @@ cut_off c n (b ∷ ds) =
     ∙ cut_off c (n * 10 + (b - 48)) ds
 
 -- one digit more
-pub one_more : (c n b : ℕ) (ds : List ℕ) → min (value_after (min (n * 10 + (b - 48)) c) ds) c ≡ min (value_after n (b ∷ ds)) c
+pub one_more : (c n b : ℕ) (ds : List ℕ)
+    → min (value_after (min (n * 10 + (b - 48)) c) ds) c ≡ min (value_after n (b ∷ ds)) c
 one_more c n b ds = cut_off c (n * 10 + (b - 48)) ds
 
 -- the number that two runs of digits write
@@ -65,7 +66,8 @@ pub past_next : (at b : ℕ) (text : List ℕ) → drop at text ≡ b ∷ drop (
 past_next at b text e digit =
     ap past_digits e ∙ ap (λ k. cond k (past_digits (drop (at + 1) text)) (b ∷ drop (at + 1) text)) digit
 
-all_by : (b : ℕ) (bs : List ℕ) (k : Bool) → (past_digits bs ≡ [] → digits_of bs ≡ bs) → cond k (past_digits bs) (b ∷ bs) ≡ []
+all_by : (b : ℕ) (bs : List ℕ) (k : Bool) → (past_digits bs ≡ [] → digits_of bs ≡ bs)
+    → cond k (past_digits bs) (b ∷ bs) ≡ []
     → cond k (b ∷ digits_of bs) [] ≡ b ∷ bs
 all_by b bs true later e = ap (λ k. b ∷ k) (later e)
 all_by b bs false later e = absurd (cc)

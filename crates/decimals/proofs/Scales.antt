@@ -1,8 +1,9 @@
 -- Powers of ten that a number and what it is divided by share.
-use Rattle.std.proofs.Common.{arith, suc, zero, ◌≡◌, ◌≤◌, ◌<◌, ◌*◌, ◌/◌, ◌^◌, ◌+◌, ◌-◌, min, ℕ, Bool, true, false, refl, sym, ap, ◌∙◌}
+use Rattle.std.proofs.Common.{arith, ◌≡◌, ◌≤◌, ◌<◌, ◌*◌, ◌/◌, ◌^◌, ◌+◌, ◌-◌, min, ℕ, Bool, true, false, sym, ap, ◌∙◌}
 use Rattle.std.proofs.Math.Nat.{div-eq_of_lt, div-eq_of_lt-le, mul-div-mul_right, div-mul-le_self, lt-div-mul-add, mul-le-mul_right}
 use Rattle.std.proofs.lemmas.Nat.{pow-add}
 use Rattle.decimals.specs.Rounding.{rounded, size_of}
+use Rattle.decimals.specs.declared.limits.TheConstants.{GREATEST}
 use Rattle.decimals.proofs.Powers.{power_some, power_past}
 
 -- over 1 nothing is rounded
@@ -18,10 +19,13 @@ rounded_none false n d less = div-eq_of_lt {n = 2 * n + d} {m = 2 * d} (omega (a
 times_low : (q x c : ℕ) → 0 < c → q ≤ x - 1 → 0 < x → q * c ≤ x * c - 1
 times_low q x c some less more =
     let p : q * c ≤ (x - 1) * c = mul-le-mul_right c less in
-    let split : (x - 1) * c + c ≡ x * c = (let e : (x - 1) + 1 ≡ x = omega arith in let f : (x - 1) * c + c ≡ ((x - 1) + 1) * c = grind arith in f ∙ ap (λ k. k * c) e) in
+    let e : (x - 1) + 1 ≡ x = omega (arith, more) in
+    let f : (x - 1) * c + c ≡ ((x - 1) + 1) * c = grind arith in
+    let split : (x - 1) * c + c ≡ x * c = f ∙ ap (λ k. k * c) e in
     omega (arith, p, split, some)
 
-below_half : (q x y c : ℕ) → 0 < c → 0 < x → q * y ≤ x - 1 → x - 1 < q * y + y → (q * (y * c) ≤ x * c - 1) × (x * c - 1 < (q + 1) * (y * c))
+below_half : (q x y c : ℕ) → 0 < c → 0 < x → q * y ≤ x - 1 → x - 1 < q * y + y
+    → (q * (y * c) ≤ x * c - 1) × (x * c - 1 < (q + 1) * (y * c))
 below_half q x y c some more low high =
     let a : q * y * c ≤ x * c - 1 = times_low (q * y) x c some low more in
     let b : x * c ≤ (q * y + y) * c = mul-le-mul_right c (let e : x ≤ q * y + y = omega (arith, high) in e) in
@@ -39,7 +43,8 @@ rounded_shared false n d c some more =
 rounded_shared true n d c some more =
     let q = (2 * n + d - 1) / (2 * d) in
     let low : q * (2 * d) ≤ 2 * n + d - 1 = div-mul-le_self (2 * n + d - 1) (2 * d) in
-    let high : 2 * n + d - 1 < q * (2 * d) + 2 * d = lt-div-mul-add {a = 2 * n + d - 1} {b = 2 * d} (omega (arith, some)) in
+    let high : 2 * n + d - 1 < q * (2 * d) + 2 * d =
+    lt-div-mul-add {a = 2 * n + d - 1} {b = 2 * d} (omega (arith, some)) in
     let both = below_half q (2 * n + d) (2 * d) c more (omega (arith, some)) low high in
     let e : 2 * (n * c) + d * c ≡ (2 * n + d) * c = grind arith in
     let f : 2 * (d * c) ≡ 2 * d * c = grind arith in
@@ -50,7 +55,8 @@ split_power : (a b : ℕ) → a ≤ b → 10 ^ b ≡ 10 ^ (b - a) * 10 ^ a
 split_power a b less = ap (λ k. 10 ^ k) (let e : b ≡ (b - a) + a = omega (arith, less) in e) ∙ pow-add 10 (b - a) a
 
 -- where the exponent wins, the value is whole
-pub rounded_up : (minus : Bool) (n raised down : ℕ) → down ≤ raised → rounded minus (n * 10 ^ raised) (10 ^ down) ≡ n * 10 ^ (raised - down)
+pub rounded_up : (minus : Bool) (n raised down : ℕ) → down ≤ raised
+    → rounded minus (n * 10 ^ raised) (10 ^ down) ≡ n * 10 ^ (raised - down)
 rounded_up minus n raised down less =
     let e : n * (10 ^ (raised - down) * 10 ^ down) ≡ n * 10 ^ (raised - down) * 10 ^ down = grind arith in
     let one : 10 ^ down ≡ 1 * 10 ^ down = omega arith in
@@ -61,23 +67,27 @@ rounded_up minus n raised down less =
     ∙ rounded_one minus (n * 10 ^ (raised - down))
 
 -- else what is left of the division
-pub rounded_down : (minus : Bool) (n raised down : ℕ) → raised ≤ down → rounded minus (n * 10 ^ raised) (10 ^ down) ≡ rounded minus n (10 ^ (down - raised))
+pub rounded_down : (minus : Bool) (n raised down : ℕ) → raised ≤ down
+    → rounded minus (n * 10 ^ raised) (10 ^ down) ≡ rounded minus n (10 ^ (down - raised))
 rounded_down minus n raised down less =
     ap (rounded minus (n * 10 ^ raised)) (split_power raised down less)
     ∙ rounded_shared minus n (10 ^ (down - raised)) (10 ^ raised) (power_some (down - raised)) (power_some raised)
 
 -- a number that is divided by a power past every value
-pub rounded_past : (minus : Bool) (n tens : ℕ) → n < 5192296858534827628530496329220096 → 34 < tens → rounded minus n (10 ^ tens) ≡ 0
+pub rounded_past : (minus : Bool) (n tens : ℕ) → n < 2 ^ 112 → 34 < tens
+    → rounded minus n (10 ^ tens) ≡ 0
 rounded_past minus n tens small more = rounded_none minus n (10 ^ tens) (omega (arith, power_past tens more, small))
 
 -- and so its grid value
-pub none_past : (minus : Bool) (n tens : ℕ) → n < 5192296858534827628530496329220096 → 34 < tens → 0 ≡ min (rounded minus n (10 ^ tens)) 1099511627776
-none_past minus n tens small more = ap (λ k. min k 1099511627776) (sym (rounded_past minus n tens small more))
+pub none_past : (minus : Bool) (n tens : ℕ) → n < 2 ^ 112 → 34 < tens
+    → 0 ≡ min (rounded minus n (10 ^ tens)) GREATEST
+none_past minus n tens small more = ap (λ k. min k GREATEST) (sym (rounded_past minus n tens small more))
 
 -- the size of a grid value, as the code finds it
-pub size_up : (minus : Bool) (n up down : ℕ) → down ≤ up → min (n * 10 ^ (up - down)) 1099511627776 ≡ size_of minus n up down
-size_up minus n up down less = ap (λ k. min k 1099511627776) (sym (rounded_up minus n up down less))
+pub size_up : (minus : Bool) (n up down : ℕ) → down ≤ up
+    → min (n * 10 ^ (up - down)) GREATEST ≡ size_of minus n up down
+size_up minus n up down less = ap (λ k. min k GREATEST) (sym (rounded_up minus n up down less))
 
 pub size_down : (minus : Bool) (n up down : ℕ) → up ≤ down
-    → min (rounded minus n (10 ^ (down - up))) 1099511627776 ≡ size_of minus n up down
-size_down minus n up down less = ap (λ k. min k 1099511627776) (sym (rounded_down minus n up down less))
+    → min (rounded minus n (10 ^ (down - up))) GREATEST ≡ size_of minus n up down
+size_down minus n up down less = ap (λ k. min k GREATEST) (sym (rounded_down minus n up down less))

@@ -27,26 +27,32 @@ some_word (b ∷ bs) some = refl
 no_word : (bs : List ℕ) → bs ≡ [] → is_word bs ≡ false
 no_word bs e = ap is_word e
 
-whole_form : (word : List ℕ) (value count : ℕ) (rest : List ℕ) → IsAllDigits word value count rest → (past_digits word ≡ []) × (is_whole word ≡ true)
+whole_form : (word : List ℕ) (value count : ℕ) (rest : List ℕ) → IsAllDigits word value count rest
+    → (past_digits word ≡ []) × (is_whole word ≡ true)
 whole_form word value count rest p =
     let none : past_digits word ≡ [] = sym p.rest_is ∙ nil_from_length rest p.none in
     let some : is_word (digits_of word) ≡ true = some_word (digits_of word) (λ e. p.some (p.count_is ∙ e)) in
     (none, ap (λ k. k && not (is_word (past_digits word))) some ∙ ap (λ k. not k) (no_word (past_digits word) none))
 
 whole_length : (word : List ℕ) (value count : ℕ) (rest : List ℕ) → IsAllDigits word value count rest
-    → (value ≡ min (value_after 0 word) PAST_MOST_DIGITS) × (is_too_long word ≡ nat_le PAST_MOST_DIGITS (value_after 0 word))
+    → (value ≡ min (value_after 0 word) PAST_MOST_DIGITS)
+    × (is_too_long word ≡ nat_le PAST_MOST_DIGITS (value_after 0 word))
 whole_length word value count rest p =
-    let all = all_digits word (whole_form word value count rest p).0 in
-    (p.value_is ∙ ap (λ k. min (value_after 0 k) PAST_MOST_DIGITS) all, too_long_is word (subst AreDigits all (digits_are word)))
+    let all = all_digits word (whole_form word value count rest p).0 in (
+      p.value_is ∙ ap (λ k. min (value_after 0 k) PAST_MOST_DIGITS) all,
+      too_long_is word (subst AreDigits all (digits_are word)),
+    )
 
 whole_by : (b : Bool) (word : List ℕ) (v : Result ℕ NumberFault) → is_whole word ≡ true → is_too_long word ≡ b
     → cond b (Err TooLong) (Ok (min (value_after 0 word) GREATEST)) ≡ v → v ≡ whole_of word
 whole_by b word v e f g =
-    sym (ap (λ k. cond (not k) (Err NotANumber) (cond (is_too_long word) (Err TooLong) (Ok (min (value_after 0 word) GREATEST)))) e
-      ∙ ap (λ k. cond k (Err TooLong) (Ok (min (value_after 0 word) GREATEST))) f ∙ g)
+    sym (ap (λ k. cond (not k) (Err NotANumber)
+    (cond (is_too_long word) (Err TooLong) (Ok (min (value_after 0 word) GREATEST)))) e
+    ∙ ap (λ k. cond k (Err TooLong) (Ok (min (value_after 0 word) GREATEST))) f ∙ g)
 
 -- a whole number of too many digits
-pub whole_too_long : (word : List ℕ) (value count : ℕ) (rest : List ℕ) → IsAllDigits word value count rest → PAST_MOST_DIGITS ≤ value
+pub whole_too_long : (word : List ℕ) (value count : ℕ) (rest : List ℕ) → IsAllDigits word value count rest
+    → PAST_MOST_DIGITS ≤ value
     → Err TooLong ≡ whole_of word
 whole_too_long word value count rest p big =
     let l = whole_length word value count rest p in
@@ -54,7 +60,8 @@ whole_too_long word value count rest p big =
     whole_by true word (Err TooLong) (whole_form word value count rest p).1 (l.1 ∙ test) refl
 
 -- the value of a whole number
-pub whole_value : (word : List ℕ) (value count : ℕ) (rest : List ℕ) (v : ℕ) → IsAllDigits word value count rest → value < PAST_MOST_DIGITS
+pub whole_value : (word : List ℕ) (value count : ℕ) (rest : List ℕ) (v : ℕ) → IsAllDigits word value count rest
+    → value < PAST_MOST_DIGITS
     → v ≡ min value GREATEST → Ok v ≡ whole_of word
 whole_value word value count rest v p few e =
     let l = whole_length word value count rest p in

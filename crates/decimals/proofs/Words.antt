@@ -21,12 +21,13 @@ is_word-append [] (b ∷ bs) = grind (arith, nat_tests)
 is_word-append (b ∷ bs) ys = grind (arith, nat_tests)
 
 -- a word without a digit before its exponent
-pub no_digit : (word : List ℕ) (before behind : ℕ) → before ≡ length (whole_part word) → behind ≡ length (fraction_part word)
+pub no_digit : (word : List ℕ) (before behind : ℕ) → before ≡ length (whole_part word)
+    → behind ≡ length (fraction_part word)
     → nat_lt 0 (before + behind) ≡ false → is_decimal word ≡ false
 no_digit word before behind p q e =
     ap (λ k. k && is_ending (ending_part word))
-        (is_word-append (whole_part word) (fraction_part word)
-        ∙ ap (λ k. nat_lt 0 (k + length (fraction_part word))) (sym p) ∙ ap (λ k. nat_lt 0 (before + k)) (sym q) ∙ e)
+    (is_word-append (whole_part word) (fraction_part word)
+    ∙ ap (λ k. nat_lt 0 (k + length (fraction_part word))) (sym p) ∙ ap (λ k. nat_lt 0 (before + k)) (sym q) ∙ e)
 
 and_false : (a : Bool) → a && false ≡ false
 and_false true = refl
@@ -37,12 +38,13 @@ pub no_ending : (word : List ℕ) → is_ending (ending_part word) ≡ false →
 no_ending word e = ap (λ k. is_word (mantissa_digits word) && k) e ∙ and_false (is_word (mantissa_digits word))
 
 -- a word with a digit that ends well
-pub both_there : (word : List ℕ) (before behind : ℕ) → before ≡ length (whole_part word) → behind ≡ length (fraction_part word)
+pub both_there : (word : List ℕ) (before behind : ℕ) → before ≡ length (whole_part word)
+    → behind ≡ length (fraction_part word)
     → nat_lt 0 (before + behind) ≡ true → is_ending (ending_part word) ≡ true → is_decimal word ≡ true
 both_there word before behind p q e f =
     ap (λ k. k && is_ending (ending_part word))
-        (is_word-append (whole_part word) (fraction_part word)
-        ∙ ap (λ k. nat_lt 0 (k + length (fraction_part word))) (sym p) ∙ ap (λ k. nat_lt 0 (before + k)) (sym q) ∙ e)
+    (is_word-append (whole_part word) (fraction_part word)
+    ∙ ap (λ k. nat_lt 0 (k + length (fraction_part word))) (sym p) ∙ ap (λ k. nat_lt 0 (before + k)) (sym q) ∙ e)
     ∙ f
 
 -- the parts of a decimal that were read
@@ -70,27 +72,36 @@ parts_read word d whole before p = record {
 }
 
 -- a decimal with too many digits
-pub too_long_word : (unit : ℕ) (word : List ℕ) (d : Decimal) → IsReadAs word d → PAST_MOST_DIGITS ≤ d.mantissa → Err TooLong ≡ grid_of unit word
+pub too_long_word : (unit : ℕ) (word : List ℕ) (d : Decimal) → IsReadAs word d → PAST_MOST_DIGITS ≤ d.mantissa
+    → Err TooLong ≡ grid_of unit word
 too_long_word unit word d r big =
     let large : PAST_MOST_DIGITS ≤ value_after 0 (mantissa_digits word) = omega (arith, r.mantissa, big) in
     let test : nat_le PAST_MOST_DIGITS (value_after 0 (mantissa_digits word)) ≡ true = grind (arith, nat_tests) in
-    let long : is_too_long (mantissa_digits word) ≡ true = too_long_is (mantissa_digits word) (mantissa_are word) ∙ test in
+    let digits = mantissa_digits word in
+    let long : is_too_long digits ≡ true = too_long_is digits (mantissa_are word) ∙ test in
     let value : Result ℤ NumberFault = Ok (brought_in (nearest_step unit (fraction_written word))) in
-    sym (ap (λ k. cond (not k) (Err NotANumber) (cond (is_too_long (mantissa_digits word)) (Err TooLong) value)) r.decimal
-      ∙ ap (λ k. cond k (Err TooLong) value) long)
+    let first = ap (λ k. cond (not k) (Err NotANumber) (cond (is_too_long digits) (Err TooLong) value)) r.decimal in
+    sym (first ∙ ap (λ k. cond k (Err TooLong) value) long)
+
+-- the grid value of parts
+abbrev value_of : ℕ → Bool → ℕ → ℕ → ℕ → ℕ → ℤ
+value_of unit minus value places raised lowered = brought_in (nearest_step unit (scaled minus value places raised lowered))
 
 same_parts : (unit : ℕ) (word : List ℕ) (d : Decimal) → IsReadAs word d → d.mantissa < PAST_MOST_DIGITS
-    → brought_in (nearest_step unit (scaled d.minus d.mantissa d.places d.raised d.lowered))
-    ≡ brought_in (nearest_step unit (scaled (starts_minus word) (value_after 0 (mantissa_digits word)) (length (fraction_part word))
-        (min (raised_by (ending_part word)) PAST_MOST_DIGITS) (min (lowered_by (ending_part word)) PAST_MOST_DIGITS)))
+    → value_of unit d.minus d.mantissa d.places d.raised d.lowered
+    ≡ value_of unit (starts_minus word) (value_after 0 (mantissa_digits word)) (length (fraction_part word))
+    (min (raised_by (ending_part word)) PAST_MOST_DIGITS) (min (lowered_by (ending_part word)) PAST_MOST_DIGITS)
 same_parts unit word d r few =
-    let whole : d.mantissa ≡ value_after 0 (mantissa_digits word) = omega (arith, r.mantissa, few) in
-    ap (λ k. brought_in (nearest_step unit (scaled k d.mantissa d.places d.raised d.lowered))) r.minus
-    ∙ ap (λ k. brought_in (nearest_step unit (scaled (starts_minus word) k d.places d.raised d.lowered))) whole
-    ∙ ap (λ k. brought_in (nearest_step unit (scaled (starts_minus word) (value_after 0 (mantissa_digits word)) k d.raised d.lowered))) r.places
-    ∙ ap (λ k. brought_in (nearest_step unit (scaled (starts_minus word) (value_after 0 (mantissa_digits word)) (length (fraction_part word)) k d.lowered))) r.raised
-    ∙ ap (λ k. brought_in (nearest_step unit (scaled (starts_minus word) (value_after 0 (mantissa_digits word)) (length (fraction_part word))
-        (min (raised_by (ending_part word)) PAST_MOST_DIGITS) k))) r.lowered
+    let minus = starts_minus word in
+    let value = value_after 0 (mantissa_digits word) in
+    let places = length (fraction_part word) in
+    let raised = min (raised_by (ending_part word)) PAST_MOST_DIGITS in
+    let whole : d.mantissa ≡ value = omega (arith, r.mantissa, few) in
+    ap (λ k. value_of unit k d.mantissa d.places d.raised d.lowered) r.minus
+    ∙ ap (λ k. value_of unit minus k d.places d.raised d.lowered) whole
+    ∙ ap (λ k. value_of unit minus value k d.raised d.lowered) r.places
+    ∙ ap (λ k. value_of unit minus value places k d.lowered) r.raised
+    ∙ ap (value_of unit minus value places raised) r.lowered
 
 one_is_none : (a b c d : ℕ) → a ≡ c → b ≡ d → (a ≡ 0) ⊎ (b ≡ 0) → (c ≡ 0) ⊎ (d ≡ 0)
 one_is_none a b c d e f one = elim one [ inl p ↦ inl (sym e ∙ p) | inr p ↦ inr (sym f ∙ p) ]
@@ -103,8 +114,9 @@ ok_of unit word decimal short =
     ∙ ap (λ k. cond k (Err TooLong) value) short
 
 -- the grid value of a decimal, from its parts
-pub value_of_word : (unit : ℕ) (word : List ℕ) (d : Decimal) (v : ℤ) → unit < 2 ^ 32 → d.places < 2 ^ 64 → IsReadAs word d
-    → d.mantissa < PAST_MOST_DIGITS → v ≡ brought_in (nearest_step unit (scaled d.minus d.mantissa d.places d.raised d.lowered))
+pub value_of_word : (unit : ℕ) (word : List ℕ) (d : Decimal) (v : ℤ) → unit < 2 ^ 32 → d.places < 2 ^ 64
+    → IsReadAs word d → d.mantissa < PAST_MOST_DIGITS
+    → v ≡ brought_in (nearest_step unit (scaled d.minus d.mantissa d.places d.raised d.lowered))
     → Ok v ≡ grid_of unit word
 value_of_word unit word d v narrow near r few e =
     let m = value_after 0 (mantissa_digits word) in
@@ -112,8 +124,10 @@ value_of_word unit word d v narrow near r few e =
     let far : length (fraction_part word) + 34 < PAST_MOST_DIGITS = omega (arith, r.places, near) in
     let one = one_is_none d.raised d.lowered _ _ r.raised r.lowered r.one in
     let test : nat_le PAST_MOST_DIGITS m ≡ false = grind (arith, nat_tests, small) in
-    let short : is_too_long (mantissa_digits word) ≡ false = too_long_is (mantissa_digits word) (mantissa_are word) ∙ test in
-    ap Ok (e ∙ same_parts unit word d r few
-      ∙ same_value (starts_minus word) m unit (length (fraction_part word)) (raised_by (ending_part word)) (lowered_by (ending_part word))
-          PAST_MOST_DIGITS small narrow far one)
-    ∙ sym (ok_of unit word r.decimal short)
+    let digits = mantissa_digits word in
+    let short : is_too_long digits ≡ false = too_long_is digits (mantissa_are word) ∙ test in
+    let raised = raised_by (ending_part word) in
+    let lowered = lowered_by (ending_part word) in
+    let places = length (fraction_part word) in
+    let kept = same_value (starts_minus word) m unit places raised lowered PAST_MOST_DIGITS small narrow far one in
+    ap Ok (e ∙ same_parts unit word d r few ∙ kept) ∙ sym (ok_of unit word r.decimal short)

@@ -1,5 +1,5 @@
 -- The words that are decimals or whole numbers, and their parts, from left to right.
-use Rattle.std.specs.Prelude.{ℕ, Bool, true, false, List, [], ◌∷◌, ◌++◌, ◌==◌, ◌||◌, ◌&&◌, nat_lt, not, length, if◌then◌else◌}
+use Rattle.std.specs.Prelude.{ℕ, Bool, true, List, [], ◌∷◌, ◌++◌, ◌==◌, ◌||◌, ◌&&◌, nat_lt, not, length, if◌then◌else◌}
 use Rattle.text_words.specs.Lines.{is_word}
 use Rattle.text_words.specs.Numbers.{is_digit, value_after, starts_minus}
 use Rattle.decimals.specs.declared.limits.TheConstants.{MOST_DIGITS}

@@ -22,7 +22,7 @@ scaled minus value places raised lowered =
 abbrev pub fraction_written : List ℕ → Fraction
 fraction_written word =
     scaled (starts_minus word) (value_after 0 (mantissa_digits word)) (length (fraction_part word))
-        (raised_by (ending_part word)) (lowered_by (ending_part word))
+    (raised_by (ending_part word)) (lowered_by (ending_part word))
 
 -- a / b rounded down, for b above 0
 abbrev pub floor : ℤ → ℕ → ℤ

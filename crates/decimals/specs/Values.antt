@@ -16,7 +16,8 @@ brought_in n = int_max (neg_ℤ (pos GREATEST)) (int_min n (pos GREATEST))
 abbrev pub grid_of : ℕ → List ℕ → Result ℤ NumberFault
 grid_of unit word =
     if not (is_decimal word) then Err NotANumber
-    else (if is_too_long (mantissa_digits word) then Err TooLong else Ok (brought_in (nearest_step unit (fraction_written word))))
+    else (if is_too_long (mantissa_digits word) then Err TooLong
+    else Ok (brought_in (nearest_step unit (fraction_written word))))
 
 -- the value of a whole-number word
 abbrev pub whole_of : List ℕ → Result ℕ NumberFault

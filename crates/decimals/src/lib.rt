@@ -17,3 +17,6 @@ pub use fault::NumberFault;
 pub use grid_values::grid;
 pub use limits::{GREATEST, MOST_DIGITS};
 pub use whole_numbers::whole;
+
+#[cfg(test)]
+mod tests;

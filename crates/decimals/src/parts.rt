@@ -65,7 +65,8 @@ fn fraction(whole: u128, text: &[u8]) -> (u128, usize, &[u8])
 /// The powers of ten by which an ending raises and lowers, each cut off.
 fn ending(text: &[u8]) -> Option<(u128, u128)>
     ensures tens { MatchOption result (is_ending text.now ≡ false) (λ tens. (is_ending text.now ≡ true)
-        × (tens.0 ≡ min (raised_by text.now) PAST_MOST_DIGITS) × (tens.1 ≡ min (lowered_by text.now) PAST_MOST_DIGITS)) }
+        × (tens.0 ≡ min (raised_by text.now) PAST_MOST_DIGITS)
+        × (tens.1 ≡ min (lowered_by text.now) PAST_MOST_DIGITS)) }
     ensures one { IfSome result (λ tens. (tens.0 ≡ 0) ⊎ (tens.1 ≡ 0)) }
 {
     match text.split_first() {

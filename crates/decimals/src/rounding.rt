@@ -95,7 +95,7 @@ fn wide_quotient(minus: bool, num: u128, den: u128) -> u128
 }
 
 /// A power of ten, from a table.
-#[tactic(auto, using(crate::proofs::Powers::power_some, crate::proofs::Powers::power_few, crate::proofs::Powers::power_at))]
+#[tactic(auto, using(crate::proofs::Powers::small_powers))]
 fn power(tens: usize) -> u64
     requires { tens ≤ 18 }
     ensures value { result ≡ 10 ^ tens }
@@ -105,6 +105,7 @@ fn power(tens: usize) -> u64
     POWERS[tens]
 }
 
+/// A power of ten in 128 bits.
 #[tactic(auto, using(crate::proofs::Powers::power_some, crate::proofs::Powers::power_most))]
 fn wide_power(tens: u32) -> u128
     requires { tens ≤ 34 }

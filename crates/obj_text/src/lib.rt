@@ -11,6 +11,7 @@ mod read;
 mod row;
 mod rows;
 
+pub use decimals::{GREATEST, MOST_DIGITS, NumberFault, grid, whole};
 pub use face::Face;
 pub use fault::{MeshFault, Why};
 pub use limits::{MOST_BYTES, MOST_FACES, MOST_POINTS};

@@ -14,7 +14,8 @@ loop-at-preserved c =
     let next = drop_more text at 0 some in
     let digit : is_digit b ≡ true = search rules in
     record {
-      value = next_digit PAST_MOST_DIGITS c.loop-at.value c.min-value.result _ at b text next digit (search rules) c.loop-at.invariant.value;
+      value = next_digit PAST_MOST_DIGITS c.loop-at.value c.min-value.result _ at b text next digit
+          (search rules) c.loop-at.invariant.value;
       rest = c.loop-at.invariant.rest ∙ past_next at b text next digit;
       small = search rules;
     }

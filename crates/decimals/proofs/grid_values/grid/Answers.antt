@@ -8,4 +8,5 @@ returns-then-decimal-ge-PAST_MOST_DIGITS c =
 
 pub returns : goal.returns
 returns c =
-    value_of_word c.args.unit c.args.word.now c.in-Some.decimal _ (search rules) (search rules) (search rules) (search rules) (search rules)
+    value_of_word c.args.unit c.args.word.now c.in-Some.decimal _ (search rules) (search rules) (search rules)
+    (search rules) (search rules)

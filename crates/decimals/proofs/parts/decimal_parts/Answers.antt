@@ -1,5 +1,5 @@
 use Rattle.std.proofs.Common.{rules}
-use Rattle.decimals.proofs.Words.{AreParts, parts_read}
+use Rattle.decimals.proofs.Words.{parts_read}
 use Rattle.decimals.proofs.parts.decimal_parts.Goals as goal
 
 pub returns : goal.returns
