@@ -85,7 +85,8 @@ too_long_word unit word d r big =
 
 -- the grid value of parts
 abbrev value_of : ℕ → Bool → ℕ → ℕ → ℕ → ℕ → ℤ
-value_of unit minus value places raised lowered = brought_in (nearest_step unit (scaled minus value places raised lowered))
+value_of unit minus value places raised lowered =
+    brought_in (nearest_step unit (scaled minus value places raised lowered))
 
 same_parts : (unit : ℕ) (word : List ℕ) (d : Decimal) → IsReadAs word d → d.mantissa < PAST_MOST_DIGITS
     → value_of unit d.minus d.mantissa d.places d.raised d.lowered

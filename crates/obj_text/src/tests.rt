@@ -182,3 +182,10 @@ fn faults_print_their_line(rt: HostRuntime) -> Result<(), Fail> {
     );
     Ok(())
 }
+
+#[test]
+fn number_words_are_passed_on(rt: HostRuntime) {
+    assert_eq!(rt; grid(b"6.500000", 64), Ok(416));
+    assert_eq!(rt; grid(b"6.5.0", 64), Err(NumberFault::NotANumber));
+    assert_eq!(rt; whole(b"007"), Ok(7));
+}
