@@ -1,0 +1,16 @@
+pub mod LastClear
+pub mod SplitLaws
+pub mod RangeLaws
+pub mod NumberLaws
+pub mod NeighbourLaws
+pub mod SearchLaws
+pub mod ShapeLaws
+pub mod FoundRows
+pub mod ShapeRows
+pub mod HeightLaws
+pub mod RowLaws
+pub mod FitLaws
+pub mod NodeLaws
+pub mod FillLaws
+pub mod DescentLaws
+pub mod OneTable
