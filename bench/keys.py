@@ -14,6 +14,8 @@ import tempfile
 
 CRATES = ["outside", "fixed_box", "morton_key", "radix_tree"]
 
+NAMES = ["codes of 1,000,000 boxes", "order of 1,000,000 boxes", "plain of 1,000,000 keys", "plain of 100,000 keys"]
+
 MAIN = """// Times the codes, the order and the plain build of many boxes.
 #![tactic(auto)]
 
@@ -150,7 +152,8 @@ def write(path, text):
 def build(top, folder):
     """Makes both programs in the folder, and answers their paths."""
     for crate in CRATES:
-        shutil.copytree(f"{top}/crates/{crate}", f"{folder}/crates/{crate}", ignore=shutil.ignore_patterns("out", "must-fail"))
+        left_out = shutil.ignore_patterns("out", "must-fail")
+        shutil.copytree(f"{top}/crates/{crate}", f"{folder}/crates/{crate}", ignore=left_out)
     lines = open(f"{top}/crates.txt", encoding="utf-8").read().splitlines()
     kept = [line for line in lines if line.split(":")[0] in CRATES]
     write(f"{folder}/crates.txt", "\n".join(kept) + "\nkeys_bench: outside fixed_box morton_key radix_tree\n")
@@ -164,8 +167,9 @@ def build(top, folder):
     done = subprocess.run(["rt", "run"], cwd=program, capture_output=True, text=True)
     if done.returncode != 0:
         sys.exit(done.stdout[-3000:] + done.stderr[-3000:])
-    subprocess.run(["rustc", "-O", "--edition", "2021", "-A", "dead_code", "-o", f"{folder}/keys_rust", f"{top}/bench/keys.rs"], check=True)
-    return f"{program}/out/keys_bench", f"{folder}/keys_rust"
+    rust = f"{folder}/keys_rust"
+    subprocess.run(["rustc", "-O", "--edition", "2021", "-A", "dead_code", "-o", rust, f"{top}/bench/keys.rs"], check=True)
+    return f"{program}/out/keys_bench", rust
 
 
 def main():
@@ -182,7 +186,7 @@ def main():
                 checks.add(words[4])
         if len(checks) != 1:
             sys.exit(f"the two programs differ: {checks}")
-        for i, name in enumerate(["codes of 1,000,000 boxes", "order of 1,000,000 boxes", "plain of 1,000,000 keys", "plain of 100,000 keys"]):
+        for i, name in enumerate(NAMES):
             mine = statistics.median(row[i] for row in times[ours]) / 1000
             theirs = statistics.median(row[i] for row in times[rust]) / 1000
             print(f"{name}: {mine:.1f} ms, plain Rust {theirs:.1f} ms, ratio {mine / theirs:.2f}")
