@@ -37,6 +37,25 @@ impl<'a> Words<'a> {
         self.rest = rest;
         Some(word)
     }
+
+    /// How many words are left.
+    pub fn count(&self) -> usize
+        ensures { result ≡ length self.now }
+    {
+        count_words(self.rest)
+    }
+}
+
+fn count_words(line: &[u8]) -> usize
+    ensures { result ≡ length (words_of line.now) }
+{
+    let mut rest = line;
+    let mut count = 0;
+    while let Some((_, more)) = first_word(rest) {
+        count += 1;
+        rest = more;
+    }
+    count
 }
 
 /// The first word of a line, and what follows it.
