@@ -1,0 +1,103 @@
+-- What a line of a script asks, or the first thing that is wrong with it.
+use Rattle.std.specs.Prelude.{ℕ, Bool, false, List, [], ◌∷◌, ◌==◌, ◌&&◌, nat_lt, length, drop, if◌then◌else◌, ℤ, pos, neg_ℤ, ◌*ℤ◌, int_le, codes, Option, None, Some, Result, Ok, Err}
+use Rattle.std.specs.Option.{ok_or}
+use Rattle.std.specs.Str.{bytes_eq}
+use Rattle.fixed_box.specs.Extent.{corner_box}
+use Rattle.fixed_box.specs.declared.shapes.Point.{Point}
+use Rattle.text_words.specs.Lines.{words_of}
+use Rattle.text_words.specs.Numbers.{signed_of}
+use Rattle.decimals.specs.Values.{whole_of}
+use Rattle.decimals.specs.declared.fault.NumberFault.{NumberFault}
+use Rattle.decimals.specs.declared.fault.NumberFault.TheVariants as number
+use Rattle.query_script.specs.declared.keywords.TheConstants.{LINE_MOST, COORDINATE_DIGITS, REACH}
+use Rattle.query_script.specs.declared.keywords.Keyword.{Keyword}
+use Rattle.query_script.specs.declared.keywords.Keyword.TheVariants as keyword
+use Rattle.query_script.specs.declared.asks.Ask.{Ask}
+use Rattle.query_script.specs.declared.asks.Ask.TheVariants as ask
+use Rattle.query_script.specs.declared.faults.LineFault.{LineFault}
+use Rattle.query_script.specs.declared.faults.LineFault.TheVariants.{UnknownWord, WrongCount, NotANumber, NumberTooLong, OutOfRange, LineTooLong}
+
+-- a step after a step; the fault is that of the first that fails
+abbrev pub onward : {A B : Type 0} → Result A LineFault → (A → Result B LineFault) → Result B LineFault
+onward (Ok x) next = next x
+onward (Err fault) next = Err fault
+
+-- ---- numbers
+
+-- a count of grid steps, where a queried box may reach so far
+abbrev pub within_reach : ℤ → Result ℤ LineFault
+within_reach steps = if int_le (neg_ℤ REACH) steps && int_le steps REACH then Ok steps else Err OutOfRange
+
+-- the coordinate that a word writes, with so many grid steps to its unit
+abbrev pub coordinate_of : ℕ → List ℕ → Result ℤ LineFault
+coordinate_of unit word = onward (ok_or (signed_of COORDINATE_DIGITS word) NotANumber) (λ units. within_reach (units *ℤ pos unit))
+
+-- why a word is no whole number
+abbrev pub fault_of : NumberFault → LineFault
+fault_of number.NotANumber = NotANumber
+fault_of number.TooLong = NumberTooLong
+
+-- the answer of a number word, with the line's fault
+abbrev pub number_or_fault : Result ℕ NumberFault → Result ℕ LineFault
+number_or_fault (Ok n) = Ok n
+number_or_fault (Err fault) = Err (fault_of fault)
+
+-- the whole number that a word writes
+abbrev pub number_of : List ℕ → Result ℕ LineFault
+number_of word = number_or_fault (whole_of word)
+
+-- ---- what follows a keyword
+
+-- the first of these words
+abbrev pub first_of : List (List ℕ) → List ℕ
+first_of [] = []
+first_of (word ∷ words) = word
+
+-- the corner that the first three words write
+abbrev pub corner_of : ℕ → List (List ℕ) → Result Point LineFault
+corner_of unit words =
+    onward (coordinate_of unit (first_of words)) (λ x.
+    onward (coordinate_of unit (first_of (drop 1 words))) (λ y.
+    onward (coordinate_of unit (first_of (drop 2 words))) (λ z. Ok (record { x = x; y = y; z = z }))))
+
+-- what the words behind a keyword ask, of which there are enough; for `box` the least box that holds both corners
+abbrev pub fields_ask : ℕ → Keyword → List (List ℕ) → Result Ask LineFault
+fields_ask unit keyword.Box words =
+    onward (corner_of unit words) (λ p.
+    onward (corner_of unit (drop 3 words)) (λ q. Ok (ask.Overlap (corner_box p q))))
+fields_ask unit keyword.Node words = onward (number_of (first_of words)) (λ n. Ok (ask.NodeOf n))
+fields_ask unit keyword.Work words = Ok ask.Work
+
+-- how many words follow a keyword
+abbrev pub count_of : Keyword → ℕ
+count_of keyword.Box = 6
+count_of keyword.Node = 1
+count_of keyword.Work = 0
+
+-- ---- a line
+
+-- the keyword that a word is
+abbrev pub keyword_of : List ℕ → Option Keyword
+keyword_of word =
+    if bytes_eq word (codes "box") then Some keyword.Box
+    else (if bytes_eq word (codes "node") then Some keyword.Node
+    else (if bytes_eq word (codes "work") then Some keyword.Work else None))
+
+-- what a keyword and the words behind it ask
+abbrev pub counted_ask : ℕ → Option Keyword → List (List ℕ) → Result Ask LineFault
+counted_ask unit None words = Err UnknownWord
+counted_ask unit (Some k) words = if length words == count_of k then fields_ask unit k words else Err WrongCount
+
+-- the word begins with '#'
+abbrev pub starts_comment : List ℕ → Bool
+starts_comment [] = false
+starts_comment (b ∷ bs) = b == 35
+
+-- what the words of a line ask
+abbrev pub words_ask : ℕ → List (List ℕ) → Result Ask LineFault
+words_ask unit [] = Ok ask.Nothing
+words_ask unit (word ∷ words) = if starts_comment word then Ok ask.Nothing else counted_ask unit (keyword_of word) words
+
+-- what a line asks, with so many grid steps to a unit
+abbrev pub ask_of : ℕ → List ℕ → Result Ask LineFault
+ask_of unit line = if nat_lt LINE_MOST (length line) then Err LineTooLong else words_ask unit (words_of line)

@@ -1,0 +1,70 @@
+-- The texts of replies, byte for byte.
+use Rattle.std.specs.Prelude.{ℕ, Bool, true, false, List, [], ◌∷◌, ◌++◌, length, map, codes, decimal}
+use Rattle.std.specs.Fmt.{signed_decimal}
+use Rattle.fixed_box.specs.declared.shapes.Point.{Point}
+use Rattle.fixed_box.specs.declared.shapes.Box3.{Box3}
+use Rattle.radix_tree.specs.declared.nodes.Node.{Node}
+use Rattle.query_script.specs.declared.faults.LineFault.{LineFault}
+use Rattle.query_script.specs.declared.faults.LineFault.TheVariants.{UnknownWord, WrongCount, NotANumber, NumberTooLong, OutOfRange, NoSuchNode, LineTooLong}
+use Rattle.query_script.specs.declared.replies.Reply.{Reply}
+use Rattle.query_script.specs.declared.replies.Reply.TheVariants.{Nothing, Overlaps, NodeIs, WorkIs, Refused}
+
+-- each word behind a space
+abbrev pub spaced : List (List ℕ) → List ℕ
+spaced [] = []
+spaced (word ∷ words) = codes " " ++ (word ++ spaced words)
+
+-- a line of words: the first, the others each behind a space, and a line feed
+abbrev pub line_of : List ℕ → List (List ℕ) → List ℕ
+line_of first words = first ++ (spaced words ++ codes "\n")
+
+-- a count, and where it is not 0 a colon and the numbers that it counts
+abbrev pub counted_words : List ℕ → List (List ℕ)
+counted_words [] = decimal 0 ∷ []
+counted_words (n ∷ ns) = (decimal (length (n ∷ ns)) ++ codes ":") ∷ map decimal (n ∷ ns)
+
+-- the coordinates of a point
+abbrev pub point_words : Point → List (List ℕ)
+point_words p = signed_decimal p.x ∷ signed_decimal p.y ∷ signed_decimal p.z ∷ []
+
+-- the corners of a box
+abbrev pub box_words : Box3 → List (List ℕ)
+box_words b = point_words b.lo ++ point_words b.hi
+
+-- the range of a node, and its split
+abbrev pub range_words : Node → List (List ℕ)
+range_words node = decimal node.first ∷ decimal node.last ∷ decimal node.split ∷ []
+
+-- what is told of a node: its range, its split and its box
+abbrev pub node_words : Node → List (List ℕ)
+node_words node = range_words node ++ box_words node.fit
+
+-- why a line is refused
+abbrev pub fault_text : LineFault → List ℕ
+fault_text UnknownWord = codes "unknown word"
+fault_text WrongCount = codes "wrong count of words"
+fault_text NotANumber = codes "not a number"
+fault_text NumberTooLong = codes "number too long"
+fault_text OutOfRange = codes "out of range"
+fault_text NoSuchNode = codes "no such node"
+fault_text LineTooLong = codes "line too long"
+
+-- the line of this number is refused
+abbrev pub refusal_text : ℕ → LineFault → List ℕ
+refusal_text line fault = codes "line" ++ (spaced (decimal line ∷ []) ++ (codes ": " ++ (fault_text fault ++ codes "\n")))
+
+-- the reply to the line of this number
+abbrev pub reply_text : ℕ → Reply → List ℕ
+reply_text line Nothing = []
+reply_text line (Overlaps ns) = line_of (codes "overlaps") (counted_words ns)
+reply_text line (NodeIs number node) = line_of (codes "node") (decimal number ∷ node_words node)
+reply_text line (WorkIs work) = line_of (codes "work") (decimal work ∷ [])
+reply_text line (Refused fault) = refusal_text line fault
+
+-- the reply is a refusal
+abbrev pub is_refused : Reply → Bool
+is_refused (Refused fault) = true
+is_refused Nothing = false
+is_refused (Overlaps ns) = false
+is_refused (NodeIs number node) = false
+is_refused (WorkIs work) = false

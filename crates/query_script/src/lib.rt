@@ -1,0 +1,19 @@
+//! The lines of a script, read, and the texts of their replies.
+//!
+//! A line is refused for the first thing that is wrong with it, from left to right; else it asks something. What the
+//! world replies is written as one line of words.
+#![tactic(auto)]
+
+mod asks;
+mod faults;
+mod keywords;
+mod lines;
+mod numbers;
+mod replies;
+mod texts;
+
+pub use asks::Ask;
+pub use faults::LineFault;
+pub use lines::read_line;
+pub use replies::Reply;
+pub use texts::{fault_text, is_refused, reply_text};

@@ -1,0 +1,119 @@
+//! A line of a script, read: one function for each step of the definition.
+
+ghost use Rattle.std.specs.Prelude.{◌≡◌, ◌≢◌, Err, OnOk, drop};
+ghost use Rattle.query_script.specs.Asks.{ask_of, counted_ask, fields_ask, corner_of, keyword_of, count_of, starts_comment};
+ghost use Rattle.query_script.specs.declared.faults.LineFault.TheVariants.{NoSuchNode};
+
+use crate::asks::Ask;
+use crate::faults::LineFault;
+use crate::keywords::{Keyword, LINE_MOST};
+use crate::numbers::{coordinate, number};
+use fixed_box::{Box3, Point};
+use text_words::Words;
+
+/// What a line asks, with `unit` grid steps to one unit of its coordinates, which is 1 to `UNIT_MAX`.
+///
+/// The line is without its line feed, and is cut into words at tabs, vertical tabs, form feeds, carriage returns and
+/// spaces. These checks come one after another, and the first that fails is the answer:
+///
+/// - the line has at most 1,000 bytes, else `LineTooLong`;
+/// - a line without words, or whose first word begins with `#`, asks nothing;
+/// - the first word is `box`, `node` or `work`, else `UnknownWord`;
+/// - six, one or no words follow it, else `WrongCount`;
+/// - each of them from left to right: a coordinate behind `box` is an optional `-` and 1 to 7 digits, else `NotANumber`,
+///   and from -2147483647 to 2147483647 grid steps, else `OutOfRange`; a number behind `node` is digits alone, else
+///   `NotANumber`, and at most 24 from the first that is not `0` on, else `NumberTooLong`.
+///
+/// The two corners of a `box` may stand in any order. It takes no memory.
+pub fn read_line(line: &[u8], unit: u32) -> Result<Ask, LineFault>
+    ensures ask { result ≡ ask_of unit line.now }
+    ensures without_world { result ≢ Err NoSuchNode }
+{
+    if LINE_MOST < line.len() {
+        return Err(LineFault::LineTooLong);
+    }
+    let mut words = Words::new(line);
+    let Some(first) = words.next() else {
+        return Ok(Ask::Nothing);
+    };
+    if starts_comment(first) {
+        return Ok(Ask::Nothing);
+    }
+    counted(keyword(first), &mut words, unit)
+}
+
+fn starts_comment(word: &[u8]) -> bool
+    ensures { result ≡ starts_comment word.now }
+{
+    match word.first() {
+        Some(b) => *b == b'#',
+        None => false,
+    }
+}
+
+fn keyword(word: &[u8]) -> Option<Keyword>
+    ensures { result ≡ keyword_of word.now }
+{
+    if word == b"box".as_slice() {
+        return Some(Keyword::Box);
+    }
+    if word == b"node".as_slice() {
+        return Some(Keyword::Node);
+    }
+    if word == b"work".as_slice() {
+        return Some(Keyword::Work);
+    }
+    None
+}
+
+fn count_of(keyword: Keyword) -> usize
+    ensures { result ≡ count_of keyword }
+{
+    match keyword {
+        Keyword::Box => 6,
+        Keyword::Node => 1,
+        Keyword::Work => 0,
+    }
+}
+
+/// What a keyword and the words behind it ask.
+fn counted(keyword: Option<Keyword>, words: &mut Words, unit: u32) -> Result<Ask, LineFault>
+    ensures { result ≡ counted_ask unit keyword words.old }
+{
+    let Some(keyword) = keyword else {
+        return Err(LineFault::UnknownWord);
+    };
+    if words.count() != count_of(keyword) {
+        return Err(LineFault::WrongCount);
+    }
+    fields(keyword, words, unit)
+}
+
+fn fields(keyword: Keyword, words: &mut Words, unit: u32) -> Result<Ask, LineFault>
+    ensures { result ≡ fields_ask unit keyword words.old }
+{
+    match keyword {
+        Keyword::Box => {
+            let p = corner(words, unit)?;
+            let q = corner(words, unit)?;
+            let around = Box3::of_corners(p, q);
+            Ok(Ask::Overlap { around })
+        }
+        Keyword::Node => {
+            let number = number(words)?;
+            Ok(Ask::NodeOf { number })
+        }
+        Keyword::Work => Ok(Ask::Work),
+    }
+}
+
+/// The next three words as a corner.
+fn corner(words: &mut Words, unit: u32) -> Result<Point, LineFault>
+    ensures value { result ≡ corner_of unit words.old }
+    ensures rest { OnOk result (words.new ≡ drop 3 words.old) }
+{
+    let x = coordinate(words, unit)?;
+    let y = coordinate(words, unit)?;
+    let z = coordinate(words, unit)?;
+    Ok(Point { x, y, z })
+}

@@ -1,0 +1,53 @@
+//! The numbers of a line, each in the next word.
+
+ghost use Rattle.std.specs.Prelude.{◌≡◌, drop};
+ghost use Rattle.query_script.specs.Asks.{within_reach, coordinate_of, fault_of, number_of, first_of};
+
+use crate::faults::LineFault;
+use crate::keywords::{COORDINATE_DIGITS, REACH};
+use decimals::{NumberFault, whole};
+use text_words::{Words, grid_steps, signed_number};
+
+/// The next word as a coordinate, in grid steps.
+pub fn coordinate(words: &mut Words, unit: u32) -> Result<i32, LineFault>
+    ensures value { result ≡ coordinate_of unit (first_of words.old) }
+    ensures rest { words.new ≡ drop 1 words.old }
+{
+    let word = words.next().unwrap_or(b"");
+    coordinate_of(word, unit)
+}
+
+fn coordinate_of(word: &[u8], unit: u32) -> Result<i32, LineFault>
+    ensures { result ≡ coordinate_of unit word.now }
+{
+    let units = signed_number(word, COORDINATE_DIGITS).ok_or(LineFault::NotANumber)?;
+    within_reach(grid_steps(units, unit))
+}
+
+fn within_reach(steps: i64) -> Result<i32, LineFault>
+    ensures { result ≡ within_reach steps }
+{
+    if -REACH <= steps && steps <= REACH {
+        Ok(steps as i32)
+    } else {
+        Err(LineFault::OutOfRange)
+    }
+}
+
+/// The next word as a whole number.
+pub fn number(words: &mut Words) -> Result<u64, LineFault>
+    ensures value { result ≡ number_of (first_of words.old) }
+    ensures rest { words.new ≡ drop 1 words.old }
+{
+    let word = words.next().unwrap_or(b"");
+    whole(word).map_err(fault_of)
+}
+
+fn fault_of(fault: NumberFault) -> LineFault
+    ensures { result ≡ fault_of fault }
+{
+    match fault {
+        NumberFault::NotANumber => LineFault::NotANumber,
+        NumberFault::TooLong => LineFault::NumberTooLong,
+    }
+}

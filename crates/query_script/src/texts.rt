@@ -1,0 +1,150 @@
+//! The texts of replies, byte for byte: words with one space between two of them, and a line feed.
+
+ghost use Rattle.std.specs.Prelude.{◌≡◌, ◌++◌, [], ◌∷◌, IfOk, OnOk, codes, map, decimal};
+ghost use Rattle.query_script.specs.Replies.{reply_text, line_of, refusal_text, fault_text, spaced, counted_words, point_words, box_words, range_words, node_words, is_refused};
+
+use crate::faults::LineFault;
+use crate::replies::Reply;
+use fixed_box::{Box3, Point};
+use itoa::{Buffer, Integer};
+use outside::Memory;
+use radix_tree::Node;
+use std::alloc::{AllocError, Global};
+
+/// The text of the reply to the line of this number, with its line feed; no byte for `Nothing`.
+///
+/// - `Overlaps`: `overlaps K: n1 n2 n3` with the count and the numbers, or `overlaps 0`;
+/// - `NodeIs`: `node`, the number, first and last position, split, and the coordinates of the box's corners;
+/// - `WorkIs`: `work` and the count;
+/// - `Refused`: `line N: ` with the line's number and the reason (`fault_text`).
+pub fn reply_text(alloc: Global, line: u32, reply: &Reply) -> Result<Vec<u8>, Memory>
+    ensures { IfOk result (λ text. text.items ≡ reply_text line reply.now) }
+{
+    let mut text = Vec::new(alloc);
+    match add_reply(&mut text, line, reply) {
+        Ok(()) => Ok(text),
+        Err(_) => Err(Memory),
+    }
+}
+
+fn add_reply(text: &mut Vec<u8>, line: u32, reply: &Reply) -> Result<(), AllocError>
+    ensures { OnOk result (text.new.items ≡ text.old.items ++ reply_text line reply.now) }
+{
+    match reply {
+        Reply::Nothing => Ok(()),
+        Reply::Overlaps(numbers) => add_overlaps(text, numbers.items()),
+        Reply::NodeIs { number, node } => add_node(text, *number, node),
+        Reply::WorkIs(work) => add_work(text, *work),
+        Reply::Refused(fault) => add_refusal(text, line, *fault),
+    }
+}
+
+fn add_overlaps(text: &mut Vec<u8>, numbers: &[u32]) -> Result<(), AllocError>
+    ensures { OnOk result (text.new.items ≡ text.old.items ++ line_of (codes "overlaps") (counted_words numbers.now)) }
+{
+    text.extend_from_slice(b"overlaps")?;
+    add_number(text, numbers.len())?;
+    if !numbers.is_empty() {
+        text.extend_from_slice(b":")?;
+        add_numbers(text, numbers)?;
+    }
+    text.extend_from_slice(b"\n")
+}
+
+/// Each number behind a space.
+fn add_numbers(text: &mut Vec<u8>, numbers: &[u32]) -> Result<(), AllocError>
+    ensures { OnOk result (text.new.items ≡ text.old.items ++ spaced (map decimal numbers.now)) }
+{
+    for n in numbers {
+        add_number(text, *n)?;
+    }
+    Ok(())
+}
+
+fn add_node(text: &mut Vec<u8>, number: u64, node: &Node) -> Result<(), AllocError>
+    ensures { OnOk result (text.new.items ≡ text.old.items ++ line_of (codes "node") (decimal number ∷ node_words node.now)) }
+{
+    text.extend_from_slice(b"node")?;
+    add_number(text, number)?;
+    add_fields(text, node)?;
+    text.extend_from_slice(b"\n")
+}
+
+fn add_fields(text: &mut Vec<u8>, node: &Node) -> Result<(), AllocError>
+    ensures { OnOk result (text.new.items ≡ text.old.items ++ spaced (node_words node.now)) }
+{
+    add_range(text, node)?;
+    add_box(text, &node.fit)
+}
+
+fn add_range(text: &mut Vec<u8>, node: &Node) -> Result<(), AllocError>
+    ensures { OnOk result (text.new.items ≡ text.old.items ++ spaced (range_words node.now)) }
+{
+    add_number(text, node.first)?;
+    add_number(text, node.last)?;
+    add_number(text, node.split)
+}
+
+fn add_box(text: &mut Vec<u8>, b: &Box3) -> Result<(), AllocError>
+    ensures { OnOk result (text.new.items ≡ text.old.items ++ spaced (box_words b.now)) }
+{
+    add_point(text, &b.lo)?;
+    add_point(text, &b.hi)
+}
+
+fn add_point(text: &mut Vec<u8>, point: &Point) -> Result<(), AllocError>
+    ensures { OnOk result (text.new.items ≡ text.old.items ++ spaced (point_words point.now)) }
+{
+    add_number(text, point.x)?;
+    add_number(text, point.y)?;
+    add_number(text, point.z)
+}
+
+fn add_work(text: &mut Vec<u8>, work: u64) -> Result<(), AllocError>
+    ensures { OnOk result (text.new.items ≡ text.old.items ++ line_of (codes "work") (decimal work ∷ [])) }
+{
+    text.extend_from_slice(b"work")?;
+    add_number(text, work)?;
+    text.extend_from_slice(b"\n")
+}
+
+/// A space and the number.
+fn add_number<I: Integer>(text: &mut Vec<u8>, n: I) -> Result<(), AllocError>
+    ensures { OnOk result (text.new.items ≡ text.old.items ++ (codes " " ++ I.text n)) }
+{
+    let mut buffer = Buffer::new();
+    text.extend_from_slice(b" ")?;
+    text.extend_from_slice(buffer.format(n).as_bytes())
+}
+
+fn add_refusal(text: &mut Vec<u8>, line: u32, fault: LineFault) -> Result<(), AllocError>
+    ensures { OnOk result (text.new.items ≡ text.old.items ++ refusal_text line fault) }
+{
+    text.extend_from_slice(b"line")?;
+    add_number(text, line)?;
+    text.extend_from_slice(b": ")?;
+    text.extend_from_slice(fault_text(fault).as_bytes())?;
+    text.extend_from_slice(b"\n")
+}
+
+/// The reason of a refusal, as it is written behind `line N: `.
+pub fn fault_text(fault: LineFault) -> &'static str
+    ensures { result.now ≡ fault_text fault }
+{
+    match fault {
+        LineFault::UnknownWord => "unknown word",
+        LineFault::WrongCount => "wrong count of words",
+        LineFault::NotANumber => "not a number",
+        LineFault::NumberTooLong => "number too long",
+        LineFault::OutOfRange => "out of range",
+        LineFault::NoSuchNode => "no such node",
+        LineFault::LineTooLong => "line too long",
+    }
+}
+
+/// Whether the reply is a refusal.
+pub fn is_refused(reply: &Reply) -> bool
+    ensures { result ≡ is_refused reply.now }
+{
+    matches!(reply, Reply::Refused(_))
+}
