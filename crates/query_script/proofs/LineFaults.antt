@@ -9,7 +9,7 @@ use Rattle.text_words.specs.Numbers.{signed_of}
 use Rattle.decimals.specs.Values.{whole_of}
 use Rattle.decimals.specs.declared.fault.NumberFault.{NumberFault}
 use Rattle.decimals.specs.declared.fault.NumberFault.TheVariants as number
-use Rattle.query_script.specs.declared.keywords.TheConstants.{LINE_MOST, COORDINATE_DIGITS, REACH}
+use Rattle.query_script.specs.declared.limits.TheConstants.{LINE_MOST, COORDINATE_DIGITS, REACH}
 use Rattle.query_script.specs.declared.keywords.Keyword.{Keyword}
 use Rattle.query_script.specs.declared.keywords.Keyword.TheVariants as keyword
 use Rattle.query_script.specs.declared.asks.Ask.{Ask}

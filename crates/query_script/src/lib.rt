@@ -7,6 +7,7 @@
 mod asks;
 mod faults;
 mod keywords;
+mod limits;
 mod lines;
 mod numbers;
 mod replies;
@@ -17,3 +18,6 @@ pub use faults::LineFault;
 pub use lines::read_line;
 pub use replies::Reply;
 pub use texts::{fault_text, is_refused, reply_text};
+
+#[cfg(test)]
+mod tests;

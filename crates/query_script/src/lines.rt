@@ -6,7 +6,8 @@ ghost use Rattle.query_script.specs.declared.faults.LineFault.TheVariants.{NoSuc
 
 use crate::asks::Ask;
 use crate::faults::LineFault;
-use crate::keywords::{Keyword, LINE_MOST};
+use crate::keywords::Keyword;
+use crate::limits::LINE_MOST;
 use crate::numbers::{coordinate, number};
 use fixed_box::{Box3, Point};
 use text_words::Words;

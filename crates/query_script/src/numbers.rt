@@ -1,10 +1,10 @@
-//! The numbers of a line, each in the next word.
+//! The numbers of a line, each in the next word. The words were counted before, so there is always one.
 
 ghost use Rattle.std.specs.Prelude.{◌≡◌, drop};
 ghost use Rattle.query_script.specs.Asks.{within_reach, coordinate_of, fault_of, number_of, first_of};
 
 use crate::faults::LineFault;
-use crate::keywords::{COORDINATE_DIGITS, REACH};
+use crate::limits::{COORDINATE_DIGITS, REACH};
 use decimals::{NumberFault, whole};
 use text_words::{Words, grid_steps, signed_number};
 

@@ -11,7 +11,9 @@ fn lines_and_words_are_cut(rt: HostRuntime) -> Result<(), Fail> {
     let last = lines.next().ok_or("three lines")?;
     assert_eq!(rt; lines.next(), None);
     let mut words = Words::new(without_comment(last));
+    assert_eq!(rt; words.count(), 1);
     assert_eq!(rt; words.next(), Some(b"two".as_slice()));
+    assert_eq!(rt; words.count(), 0);
     assert_eq!(rt; words.next(), None);
     assert_eq!(rt;
         first_line(b"one\n two"),

@@ -1,0 +1,41 @@
+-- Worked lines and replies, tried on the definitions alone.
+use Rattle.std.proofs.Common.{◌≡◌, [], ◌∷◌, ◌++◌, refl, Ok, Err, pos, negsuc, replicate}
+use Rattle.std.specs.Prelude.{codes}
+use Rattle.fixed_box.specs.Extent.{corner_box}
+use Rattle.query_script.specs.Asks.{ask_of}
+use Rattle.query_script.specs.Replies.{reply_text}
+use Rattle.query_script.specs.declared.asks.Ask.TheVariants as ask
+use Rattle.query_script.specs.declared.replies.Reply.TheVariants.{Overlaps, NodeIs, WorkIs, Refused}
+use Rattle.query_script.specs.declared.faults.LineFault.TheVariants.{UnknownWord, WrongCount, NotANumber, NumberTooLong, OutOfRange, NoSuchNode, LineTooLong}
+
+-- two corners at 64 grid steps to the unit
+corners
+    : ask_of 64 (codes "box 9 -4 0 4 9 0")
+    ≡ Ok (ask.Overlap (corner_box (record { x = pos 576; y = negsuc 255; z = pos 0 }) (record { x = pos 256; y = pos 576; z = pos 0 })))
+corners = refl
+
+-- leading zeros, blanks, comments
+zeros : ask_of 1 (codes "\tnode 007 ") ≡ Ok (ask.NodeOf 7)
+zeros = refl
+
+comment : ask_of 1 (codes " #box") ≡ Ok ask.Nothing
+comment = refl
+
+blank : ask_of 1 (codes " \t ") ≡ Ok ask.Nothing
+blank = refl
+
+-- the order of the checks
+first_word : ask_of 1 (codes "frob a") ≡ Err UnknownWord
+first_word = refl
+
+count : ask_of 1 (codes "box a 0 0 0 0") ≡ Err WrongCount
+count = refl
+
+from_left_to_right : ask_of 65536 (codes "box 9999999 a 0 0 0 0") ≡ Err OutOfRange
+from_left_to_right = refl
+
+seven_digits : ask_of 1 (codes "box 2147483648 0 0 0 0 0") ≡ Err NotANumber
+seven_digits = refl
+
+twenty_five_digits : ask_of 1 (codes "node 1234567890123456789012345") ≡ Err NumberTooLong
+twenty_five_digits = refl

@@ -1,0 +1,169 @@
+//! Worked lines and replies, and each public call once.
+
+use super::*;
+use fixed_box::{Box3, Point};
+use radix_tree::Node;
+use std::alloc::Global;
+use std::process::Abort;
+use std::test::Fail;
+use traversal::Numbers;
+
+fn point(x: i32, y: i32, z: i32) -> Point {
+    Point { x, y, z }
+}
+
+fn box_between(lo: Point, hi: Point) -> Ask {
+    let around = Box3::of_corners(lo, hi);
+    Ask::Overlap { around }
+}
+
+#[test]
+fn the_first_thing_wrong_from_left_to_right_is_the_fault(rt: HostRuntime) {
+    let rows: [(&str, u32, LineFault); 20] = [
+        ("frob 1", 1, LineFault::UnknownWord),
+        ("frob a", 1, LineFault::UnknownWord),
+        ("boxes 0 0 0 0 0 0", 1, LineFault::UnknownWord),
+        ("Work", 1, LineFault::UnknownWord),
+        ("seg 1 1 -1 1 1 1", 1, LineFault::UnknownWord),
+        ("box a 0 0 0 0", 1, LineFault::WrongCount),
+        ("box 0 0 0 0 0 0 0", 1, LineFault::WrongCount),
+        ("node", 1, LineFault::WrongCount),
+        ("node 1 2", 1, LineFault::WrongCount),
+        ("work #", 1, LineFault::WrongCount),
+        ("box a 0 0 1 1 1", 1, LineFault::NotANumber),
+        ("box +1 0 0 0 0 0", 1, LineFault::NotANumber),
+        ("box 0 0 0 0 0 0.5", 1, LineFault::NotANumber),
+        ("box 2147483648 0 0 0 0 0", 1, LineFault::NotANumber),
+        ("box 9999999 0 0 0 0 0", 65536, LineFault::OutOfRange),
+        ("box 0 0 0 0 0 -32768", 65536, LineFault::OutOfRange),
+        ("box 9999999 a 0 0 0 0", 65536, LineFault::OutOfRange),
+        ("box a 9999999 0 0 0 0", 65536, LineFault::NotANumber),
+        ("node -1", 1, LineFault::NotANumber),
+        (
+            "node 1234567890123456789012345",
+            1,
+            LineFault::NumberTooLong,
+        ),
+    ];
+    for (line, unit, fault) in rows {
+        assert_eq!(rt; read_line(line.as_bytes(), unit), Err(fault), "{line}");
+    }
+}
+
+#[test]
+fn blank_lines_and_comments_ask_nothing(rt: HostRuntime) {
+    for line in ["", " ", " \t\x0b\x0c\r ", "#", "# box", "\t#frob 1 2"] {
+        assert_eq!(rt; read_line(line.as_bytes(), 1), Ok(Ask::Nothing), "{line:?}");
+    }
+}
+
+#[test]
+fn words_and_numbers_become_asks(rt: HostRuntime) {
+    let rows: [(&str, u32, Ask); 7] = [
+        ("work", 1, Ask::Work),
+        ("\twork\r", 1, Ask::Work),
+        ("node 007", 1, Ask::NodeOf { number: 7 }),
+        (
+            "node 999999999999999999999999",
+            1,
+            Ask::NodeOf { number: 1 << 40 },
+        ),
+        (
+            "box 4 4 0 9 9 0",
+            64,
+            box_between(point(256, 256, 0), point(576, 576, 0)),
+        ),
+        (
+            "box 9 -4 0\x0b4 9\t-0007",
+            1,
+            box_between(point(4, -4, -7), point(9, 9, 0)),
+        ),
+        (
+            "box -32767 0 0 32767 0 0",
+            65536,
+            box_between(point(-2_147_418_112, 0, 0), point(2_147_418_112, 0, 0)),
+        ),
+    ];
+    for (line, unit, ask) in rows {
+        assert_eq!(rt; read_line(line.as_bytes(), unit), Ok(ask), "{line}");
+    }
+}
+
+#[test]
+fn a_line_of_more_than_a_thousand_bytes_is_too_long(rt: HostRuntime) -> Result<(), Fail> {
+    let letters = vec![in rt.alloc(); b'x'; 1001]?;
+    assert_eq!(rt; letters.len(), 1001);
+    assert_eq!(rt; read_line(&letters, 1), Err(LineFault::LineTooLong));
+    assert_eq!(rt; read_line(&letters[..1000], 1), Err(LineFault::UnknownWord));
+    let comment = vec![in rt.alloc(); b'#'; 1001]?;
+    assert_eq!(rt; comment.len(), 1001);
+    assert_eq!(rt; read_line(&comment, 1), Err(LineFault::LineTooLong));
+    assert_eq!(rt; read_line(&comment[..1000], 1), Ok(Ask::Nothing));
+    Ok(())
+}
+
+/// Compares the text of a reply to line 12.
+fn is_written(rt: &impl Abort, alloc: Global, reply: &Reply, text: &str) {
+    let written = reply_text(alloc, 12, reply).expect(rt, text);
+    assert_eq!(rt; written.as_slice(), text.as_bytes(), "{text}");
+}
+
+#[test]
+fn each_reply_is_one_line_of_words(rt: HostRuntime) -> Result<(), Fail> {
+    let alloc = rt.alloc();
+    is_written(&rt, alloc, &Reply::Nothing, "");
+    is_written(&rt, alloc, &Reply::WorkIs(0), "work 0\n");
+    is_written(
+        &rt,
+        alloc,
+        &Reply::WorkIs(u64::MAX),
+        "work 18446744073709551615\n",
+    );
+
+    let none = Numbers::new(Vec::new(alloc));
+    is_written(&rt, alloc, &Reply::Overlaps(none), "overlaps 0\n");
+    let one = Numbers::new(Vec::from_slice(alloc, &[1])?);
+    is_written(&rt, alloc, &Reply::Overlaps(one), "overlaps 1: 1\n");
+    let three = Numbers::new(Vec::from_slice(alloc, &[3, 14, 1_048_576])?);
+    is_written(
+        &rt,
+        alloc,
+        &Reply::Overlaps(three),
+        "overlaps 3: 3 14 1048576\n",
+    );
+
+    let node = Node {
+        first: 0,
+        last: 11,
+        split: 7,
+        fit: Box3::of_corners(point(-131072, -1, 0), point(64, 0, i32::MAX)),
+    };
+    let told = Reply::NodeIs { number: 5, node };
+    is_written(
+        &rt,
+        alloc,
+        &told,
+        "node 5 0 11 7 -131072 -1 0 64 0 2147483647\n",
+    );
+    Ok(())
+}
+
+#[test]
+fn a_refusal_names_its_line_and_reason(rt: HostRuntime) {
+    let rows: [(LineFault, &str); 7] = [
+        (LineFault::UnknownWord, "line 12: unknown word\n"),
+        (LineFault::WrongCount, "line 12: wrong count of words\n"),
+        (LineFault::NotANumber, "line 12: not a number\n"),
+        (LineFault::NumberTooLong, "line 12: number too long\n"),
+        (LineFault::OutOfRange, "line 12: out of range\n"),
+        (LineFault::NoSuchNode, "line 12: no such node\n"),
+        (LineFault::LineTooLong, "line 12: line too long\n"),
+    ];
+    for (fault, text) in rows {
+        let reply = Reply::Refused(fault);
+        assert!(rt; is_refused(&reply), "{text}");
+        is_written(&rt, rt.alloc(), &reply, text);
+    }
+    assert!(rt; !is_refused(&Reply::WorkIs(1)));
+    assert_eq!(rt; fault_text(LineFault::NoSuchNode), "no such node");
+}
