@@ -1,17 +1,17 @@
 -- Worked lines and replies, tried on the definitions alone.
-use Rattle.std.proofs.Common.{◌≡◌, [], ◌∷◌, ◌++◌, refl, Ok, Err, pos, negsuc, replicate}
+use Rattle.std.proofs.Common.{◌≡◌, refl, Ok, Err, pos, negsuc}
 use Rattle.std.specs.Prelude.{codes}
 use Rattle.fixed_box.specs.Extent.{corner_box}
 use Rattle.query_script.specs.Asks.{ask_of}
-use Rattle.query_script.specs.Replies.{reply_text}
 use Rattle.query_script.specs.declared.asks.Ask.TheVariants as ask
-use Rattle.query_script.specs.declared.replies.Reply.TheVariants.{Overlaps, NodeIs, WorkIs, Refused}
-use Rattle.query_script.specs.declared.faults.LineFault.TheVariants.{UnknownWord, WrongCount, NotANumber, NumberTooLong, OutOfRange, NoSuchNode, LineTooLong}
+use Rattle.query_script.specs.declared.faults.LineFault.TheVariants.{UnknownWord, WrongCount, NotANumber, NumberTooLong, OutOfRange}
 
 -- two corners at 64 grid steps to the unit
 corners
     : ask_of 64 (codes "box 9 -4 0 4 9 0")
-    ≡ Ok (ask.Overlap (corner_box (record { x = pos 576; y = negsuc 255; z = pos 0 }) (record { x = pos 256; y = pos 576; z = pos 0 })))
+    ≡ Ok (ask.Overlap (corner_box
+    (record { x = pos 576; y = negsuc 255; z = pos 0 })
+    (record { x = pos 256; y = pos 576; z = pos 0 })))
 corners = refl
 
 -- leading zeros, blanks, comments

@@ -1,48 +1,49 @@
 -- The faults that reading a line may have: all but that of a missing node, which only a world knows.
-use Rattle.std.proofs.Common.{◌≡◌, ◌≢◌, ℕ, Bool, true, false, List, [], ◌∷◌, ◌==◌, ◌&&◌, nat_lt, length, drop, cond, ℤ, pos, neg_ℤ, ◌*ℤ◌, Option, None, Some, Result, Ok, Err}
+use Rattle.std.proofs.Common.{◌≢◌, ℕ, Bool, true, false, List, ◌==◌, ◌&&◌, length, drop, ℤ, pos, neg_ℤ, ◌*ℤ◌, Option, None, Some, Result, Ok, Err}
 use Rattle.std.specs.Prelude.{int_le, if◌then◌else◌}
 use Rattle.std.specs.Option.{ok_or}
-use Rattle.fixed_box.specs.Extent.{corner_box}
-use Rattle.fixed_box.specs.declared.shapes.Point.{Point}
-use Rattle.text_words.specs.Lines.{words_of}
 use Rattle.text_words.specs.Numbers.{signed_of}
 use Rattle.decimals.specs.Values.{whole_of}
 use Rattle.decimals.specs.declared.fault.NumberFault.{NumberFault}
 use Rattle.decimals.specs.declared.fault.NumberFault.TheVariants as number
-use Rattle.query_script.specs.declared.limits.TheConstants.{LINE_MOST, COORDINATE_DIGITS, REACH}
+use Rattle.query_script.specs.declared.limits.TheConstants.{COORDINATE_DIGITS, REACH}
 use Rattle.query_script.specs.declared.keywords.Keyword.{Keyword}
 use Rattle.query_script.specs.declared.keywords.Keyword.TheVariants as keyword
-use Rattle.query_script.specs.declared.asks.Ask.{Ask}
-use Rattle.query_script.specs.declared.asks.Ask.TheVariants as ask
 use Rattle.query_script.specs.declared.faults.LineFault.{LineFault}
-use Rattle.query_script.specs.declared.faults.LineFault.TheVariants.{UnknownWord, WrongCount, NotANumber, NumberTooLong, OutOfRange, NoSuchNode, LineTooLong}
-use Rattle.query_script.specs.Asks.{onward, within_reach, coordinate_of, fault_of, number_or_fault, number_of, first_of, corner_of, fields_ask, count_of, keyword_of, counted_ask, starts_comment, words_ask, ask_of}
+use Rattle.query_script.specs.declared.faults.LineFault.TheVariants.{WrongCount, NotANumber, OutOfRange, NoSuchNode}
+use Rattle.query_script.specs.Asks.{onward, within_reach, units_of, coordinate_of, number_or_fault, number_of, first_of, corner_of, fields_ask, count_of, counted_ask}
 
 -- the result is no missing node
 abbrev pub IsKnown : {A : Type 0} → Result A LineFault → Type 0
 IsKnown r = r ≢ Err NoSuchNode
 
 -- a step after a step
-known_onward : {A B : Type 0} (r : Result A LineFault) (next : A → Result B LineFault) → IsKnown r → ((x : A) → IsKnown (next x)) → IsKnown (onward r next)
+known_onward
+    : {A B : Type 0} (r : Result A LineFault) (next : A → Result B LineFault)
+    → IsKnown r → ((x : A) → IsKnown (next x)) → IsKnown (onward r next)
 known_onward (Ok x) next first rest = rest x
 known_onward (Err fault) next first rest = λ e. first (cc)
 
 -- a choice
-known_choice : {A : Type 0} (b : Bool) (p q : Result A LineFault) → IsKnown p → IsKnown q → IsKnown (if b then p else q)
+known_choice
+    : {A : Type 0} (b : Bool) (p q : Result A LineFault) → IsKnown p → IsKnown q → IsKnown (if b then p else q)
 known_choice true p q first second = first
 known_choice false p q first second = second
 
--- a coordinate
+-- a count of units, if there is one
 known_units : (n : Option ℤ) → IsKnown (ok_or n NotANumber)
 known_units None = λ e. cc
 known_units (Some n) = λ e. cc
 
+-- a count of grid steps
 known_reach : (steps : ℤ) → IsKnown (within_reach steps)
-known_reach steps = known_choice (int_le (neg_ℤ REACH) steps && int_le steps REACH) (Ok steps) (Err OutOfRange) (λ e. cc) (λ e. cc)
+known_reach steps =
+    known_choice (int_le (neg_ℤ REACH) steps && int_le steps REACH) (Ok steps) (Err OutOfRange) (λ e. cc) (λ e. cc)
 
+-- a coordinate
 known_coordinate : (unit : ℕ) (word : List ℕ) → IsKnown (coordinate_of unit word)
 known_coordinate unit word =
-    known_onward (ok_or (signed_of COORDINATE_DIGITS word) NotANumber) (λ units. within_reach (units *ℤ pos unit))
+    known_onward (units_of word) (λ units. within_reach (units *ℤ pos unit))
     (known_units (signed_of COORDINATE_DIGITS word)) (λ units. known_reach (units *ℤ pos unit))
 
 -- a number
@@ -54,9 +55,12 @@ known_number (Err number.TooLong) = λ e. cc
 -- a corner
 known_corner : (unit : ℕ) (words : List (List ℕ)) → IsKnown (corner_of unit words)
 known_corner unit words =
-    known_onward (coordinate_of unit (first_of words)) _ (known_coordinate unit (first_of words)) (λ x.
-    known_onward (coordinate_of unit (first_of (drop 1 words))) _ (known_coordinate unit (first_of (drop 1 words))) (λ y.
-    known_onward (coordinate_of unit (first_of (drop 2 words))) _ (known_coordinate unit (first_of (drop 2 words))) (λ z e. cc)))
+    let x = first_of words in
+    let y = first_of (drop 1 words) in
+    let z = first_of (drop 2 words) in
+    known_onward (coordinate_of unit x) _ (known_coordinate unit x) (λ a.
+    known_onward (coordinate_of unit y) _ (known_coordinate unit y) (λ b.
+    known_onward (coordinate_of unit z) _ (known_coordinate unit z) (λ c e. cc)))
 
 -- what follows a keyword
 known_fields : (unit : ℕ) (k : Keyword) (words : List (List ℕ)) → IsKnown (fields_ask unit k words)
@@ -71,4 +75,5 @@ known_fields unit keyword.Work words = λ e. cc
 pub known_counted : (unit : ℕ) (k : Option Keyword) (words : List (List ℕ)) → IsKnown (counted_ask unit k words)
 known_counted unit None words = λ e. cc
 known_counted unit (Some k) words =
-    known_choice (length words == count_of k) (fields_ask unit k words) (Err WrongCount) (known_fields unit k words) (λ e. cc)
+    let fields = fields_ask unit k words in
+    known_choice (length words == count_of k) fields (Err WrongCount) (known_fields unit k words) (λ e. cc)

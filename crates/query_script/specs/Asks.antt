@@ -28,9 +28,13 @@ onward (Err fault) next = Err fault
 abbrev pub within_reach : ℤ → Result ℤ LineFault
 within_reach steps = if int_le (neg_ℤ REACH) steps && int_le steps REACH then Ok steps else Err OutOfRange
 
+-- the count of units that a word writes
+abbrev pub units_of : List ℕ → Result ℤ LineFault
+units_of word = ok_or (signed_of COORDINATE_DIGITS word) NotANumber
+
 -- the coordinate that a word writes, with so many grid steps to its unit
 abbrev pub coordinate_of : ℕ → List ℕ → Result ℤ LineFault
-coordinate_of unit word = onward (ok_or (signed_of COORDINATE_DIGITS word) NotANumber) (λ units. within_reach (units *ℤ pos unit))
+coordinate_of unit word = onward (units_of word) (λ units. within_reach (units *ℤ pos unit))
 
 -- why a word is no whole number
 abbrev pub fault_of : NumberFault → LineFault

@@ -51,7 +51,7 @@ fault_text LineTooLong = codes "line too long"
 
 -- the line of this number is refused
 abbrev pub refusal_text : ℕ → LineFault → List ℕ
-refusal_text line fault = codes "line" ++ (spaced (decimal line ∷ []) ++ (codes ": " ++ (fault_text fault ++ codes "\n")))
+refusal_text line fault = codes "line " ++ (decimal line ++ (codes ": " ++ (fault_text fault ++ codes "\n")))
 
 -- the reply to the line of this number
 abbrev pub reply_text : ℕ → Reply → List ℕ

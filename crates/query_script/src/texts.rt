@@ -40,7 +40,8 @@ fn add_reply(text: &mut Vec<u8>, line: u32, reply: &Reply) -> Result<(), AllocEr
 }
 
 fn add_overlaps(text: &mut Vec<u8>, numbers: &[u32]) -> Result<(), AllocError>
-    ensures { OnOk result (text.new.items ≡ text.old.items ++ line_of (codes "overlaps") (counted_words numbers.now)) }
+    ensures { OnOk result (text.new.items ≡ text.old.items
+        ++ line_of (codes "overlaps") (counted_words numbers.now)) }
 {
     text.extend_from_slice(b"overlaps")?;
     add_number(text, numbers.len())?;
@@ -62,7 +63,8 @@ fn add_numbers(text: &mut Vec<u8>, numbers: &[u32]) -> Result<(), AllocError>
 }
 
 fn add_node(text: &mut Vec<u8>, number: u64, node: &Node) -> Result<(), AllocError>
-    ensures { OnOk result (text.new.items ≡ text.old.items ++ line_of (codes "node") (decimal number ∷ node_words node.now)) }
+    ensures { OnOk result (text.new.items ≡ text.old.items
+        ++ line_of (codes "node") (decimal number ∷ node_words node.now)) }
 {
     text.extend_from_slice(b"node")?;
     add_number(text, number)?;
