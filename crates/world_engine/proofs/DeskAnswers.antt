@@ -11,15 +11,20 @@ use Rattle.streams.proofs.Within.{not_less, is_less, within_whole, within_cut}
 use Rattle.world_engine.specs.declared.limits.TheConstants.{UNIT, SCRIPT_MOST}
 use Rattle.world_engine.specs.declared.status.Status.{Status}
 use Rattle.world_engine.specs.declared.status.Status.TheVariants.{LinesRefused}
-use Rattle.world_engine.specs.Desks.{DeskState, new_desk, desk_text, desk_after}
+use Rattle.world_engine.specs.declared.desk.Desk.{Desk}
+use Rattle.world_engine.specs.Desks.{desk_text, desk_after}
 use Rattle.world_engine.specs.Worlds.{WorldState, reply_of}
-use Rattle.world_engine.specs.Asks.{ask_of}
-use Rattle.world_engine.specs.Replies.{reply_text, is_refused}
+use Rattle.query_script.specs.Asks.{ask_of}
+use Rattle.query_script.specs.Replies.{reply_text, is_refused}
 use Rattle.world_engine.specs.Outputs.{replies_of, texts_from, script_output, whole_output, cut_output, status_of, says}
 use Rattle.world_engine.specs.Runs.{Fulfils, IsWhole, replies_to_ended}
 
+-- a desk at which no line was refused yet
+abbrev pub new_desk : WorldState → ℕ → Desk
+new_desk world unit = record { world = world; unit = unit; refused = false }
+
 -- a desk's answers are the texts of the replies
-pub desk_answers : (desk : DeskState) (number : ℕ) (lines : List (List ℕ)) → answers_from desk_text desk_after desk number lines ≡ texts_from number (replies_of desk.unit desk.world lines)
+pub desk_answers : (desk : Desk) (number : ℕ) (lines : List (List ℕ)) → answers_from desk_text desk_after desk number lines ≡ texts_from number (replies_of desk.unit desk.world lines)
 desk_answers desk number [] = refl
 desk_answers desk number (line ∷ lines) = ap (λ k. reply_text number (reply_of desk.world (ask_of desk.unit line)) ++ k) (desk_answers (desk_after desk line) (number + 1) lines)
 
@@ -32,7 +37,7 @@ or_false true = refl
 or_false false = refl
 
 -- a desk knows whether some reply was a refusal
-pub desk_refusals : (desk : DeskState) (lines : List (List ℕ)) → (state_after desk_after desk lines).refused ≡ desk.refused || list_any is_refused (replies_of desk.unit desk.world lines)
+pub desk_refusals : (desk : Desk) (lines : List (List ℕ)) → (state_after desk_after desk lines).refused ≡ desk.refused || list_any is_refused (replies_of desk.unit desk.world lines)
 desk_refusals desk [] = sym (or_false desk.refused)
 desk_refusals desk (line ∷ lines) =
     desk_refusals (desk_after desk line) lines
@@ -79,7 +84,7 @@ pub front_of_whole : (old now : Option (List ℕ)) (text : List ℕ) → Appends
 front_of_whole old now text p = ([], record { front = text; whole = sym (append-nil text); taken = p })
 
 -- a script within the limit that was answered to its end
-pub script_ends : (world : WorldState) (old now left : Option (List ℕ)) (desk : DeskState) (status : Status) → status ≡ status_of desk.refused
+pub script_ends : (world : WorldState) (old now left : Option (List ℕ)) (desk : Desk) (status : Status) → status ≡ status_of desk.refused
     → IfSome left (λ bytes. Appends old now (answers_from desk_text desk_after (new_desk world UNIT) 1 (lines_within SCRIPT_MOST bytes)))
     → IfSome left (λ bytes. desk ≡ state_after desk_after (new_desk world UNIT) (lines_within SCRIPT_MOST bytes))
     → IfSome left (λ bytes. length bytes ≤ SCRIPT_MOST)

@@ -1,5 +1,5 @@
 -- How long a script is, by how it ended.
-use Rattle.std.proofs.Common.{◌≡◌, ◌↔◌, ◌<◌, ◌≤◌, ℕ, List, Option, None, Some, IfSome, length, inl, inr, arith}
+use Rattle.std.proofs.Common.{◌≡◌, ◌↔◌, ◌<◌, ◌≤◌, ℕ, List, Option, None, Some, IfSome, length, inl, inr}
 use Rattle.std.proofs.lemmas.Bool.{cases_lt}
 use Rattle.streams.specs.declared.answerer.Ended.{Ended}
 use Rattle.streams.specs.declared.answerer.Ended.TheVariants.{Whole, TooLong}

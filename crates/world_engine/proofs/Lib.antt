@@ -1,5 +1,6 @@
 pub mod DeskAnswers
 pub mod Ends
 pub mod Stops
-pub mod Refusals
+pub mod RefusedMeshes
 pub mod Complete
+pub mod WorldBoxes

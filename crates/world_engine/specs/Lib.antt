@@ -1,8 +1,7 @@
 pub mod Statuses
 pub mod Words
-pub mod Asks
 pub mod Worlds
-pub mod Replies
+pub mod Refusals
 pub mod Outputs
 pub mod Kept
 pub mod Runs

@@ -10,11 +10,12 @@ use Rattle.obj_text.specs.declared.limits.TheConstants.{MOST_BYTES}
 use Rattle.world_engine.specs.declared.status.Status.{Status}
 use Rattle.world_engine.specs.declared.status.Status.TheVariants.{Done, Usage, MeshRefused, ReadFault, LinesRefused}
 use Rattle.world_engine.specs.declared.limits.TheConstants.{UNIT, SCRIPT_MOST}
-use Rattle.world_engine.specs.declared.reply.Reply.{Reply}
+use Rattle.query_script.specs.declared.replies.Reply.{Reply}
+use Rattle.query_script.specs.Asks.{ask_of}
+use Rattle.query_script.specs.Replies.{reply_text, is_refused}
 use Rattle.world_engine.specs.Words.{mesh_name}
-use Rattle.world_engine.specs.Asks.{ask_of}
 use Rattle.world_engine.specs.Worlds.{WorldState, world_of, reply_of, after}
-use Rattle.world_engine.specs.Replies.{reply_text, refusal_text, is_refused}
+use Rattle.world_engine.specs.Refusals.{refusal_text}
 
 -- what is written, and the status
 pub record Output : Type 0 where

@@ -1,5 +1,5 @@
 -- What the clauses of a run say of its output, its cause and what it has read.
-use Rattle.std.specs.Prelude.{◌≡◌, ◌⊎◌, ◌<◌, ◌++◌, ℕ, List, Option, None, Some, Result, Ok, Err, length, ⊤}
+use Rattle.std.specs.Prelude.{◌≡◌, ◌⊎◌, ◌<◌, ℕ, List, Option, None, Some, Result, Ok, Err, length, ⊤}
 use Rattle.std.specs.FinMap.{get}
 use Rattle.std.specs.Io.KnownBytes.{Appends}
 use Rattle.outside.specs.Files.{Files, FileIs, IsAbsent}
@@ -69,7 +69,7 @@ abbrev pub world_in : Result MeshLists FaultyLine → Option WorldState
 world_in (Ok mesh) = Some (world_of mesh)
 world_in (Err fault) = None
 
--- the world of a mesh file, which may be none
+-- the world of a mesh file, which may be none; a file past its limit is refused before this matters
 abbrev pub world_of_file : Option (List ℕ) → Option WorldState
 world_of_file None = None
 world_of_file (Some file) = world_in (mesh_of UNIT file)

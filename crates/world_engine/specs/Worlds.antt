@@ -1,24 +1,36 @@
 -- The world: what a state is, what an ask is answered in it, and the state after it.
-use Rattle.std.specs.Prelude.{ℕ, ◌+◌, List, [], ◌∷◌, map, slice_index_or, if◌then◌else◌, pos, Result, Ok, Err}
-use Rattle.fixed_box.specs.Extent.{tri_box, boxes_meet}
+use Rattle.std.specs.Prelude.{ℕ, Bool, true, false, List, map, length, nat_lt, slice_index_or, if◌then◌else◌, pos, Result, Ok, Err}
+use Rattle.fixed_box.specs.Extent.{tri_box}
 use Rattle.fixed_box.specs.declared.shapes.Point.{Point}
 use Rattle.fixed_box.specs.declared.shapes.Box3.{Box3}
 use Rattle.fixed_box.specs.declared.shapes.Tri.{Tri}
 use Rattle.obj_text.specs.Meshes.{MeshLists}
 use Rattle.obj_text.specs.declared.face.Face.{Face}
-use Rattle.world_engine.specs.declared.ask.Ask.{Ask}
-use Rattle.world_engine.specs.declared.ask.Ask.TheVariants.{Nothing as AskNothing, Overlap}
-use Rattle.world_engine.specs.declared.ask.LineFault.{LineFault}
-use Rattle.world_engine.specs.declared.reply.Reply.{Reply}
-use Rattle.world_engine.specs.declared.reply.Reply.TheVariants.{Nothing, Overlaps, Refused}
+use Rattle.morton_key.specs.declared.keys.Key.{Key}
+use Rattle.morton_key.specs.Order.{order_of}
+use Rattle.radix_tree.specs.declared.nodes.Node.{Node}
+use Rattle.radix_tree.specs.Table.{node_at}
+use Rattle.radix_tree.specs.Fit.{table_of}
+use Rattle.traversal.specs.Overlaps.{overlaps_of, work_of}
+use Rattle.query_script.specs.declared.asks.Ask.{Ask}
+use Rattle.query_script.specs.declared.asks.Ask.TheVariants as ask
+use Rattle.query_script.specs.declared.faults.LineFault.{LineFault}
+use Rattle.query_script.specs.declared.faults.LineFault.TheVariants.{NoSuchNode}
+use Rattle.query_script.specs.declared.replies.Reply.{Reply}
+use Rattle.query_script.specs.declared.replies.Reply.TheVariants.{Nothing, Overlaps, NodeIs, WorkIs, Refused}
 
--- a state of the world: the mesh that opened it
+-- a state of the world: the mesh that opened it, the points now, those of the last build, and the last box query's work
 pub record WorldState : Type 0 where
   pub mesh : MeshLists
+  pub now : List Point
+  pub built : List Point
+  pub work : ℕ
 
 -- the world that a mesh opens
 abbrev pub world_of : MeshLists → WorldState
-world_of mesh = record { mesh = mesh }
+world_of mesh = record { mesh = mesh; now = mesh.points; built = mesh.points; work = 0 }
+
+-- ---- the triangles and their tree
 
 -- the point at a position
 abbrev pub point_at : List Point → ℕ → Point
@@ -28,25 +40,50 @@ point_at points position = slice_index_or points position (record { x = pos 0; y
 abbrev pub tri_of : List Point → Face → Tri
 tri_of points face = record { a = point_at points face.a; b = point_at points face.b; c = point_at points face.c }
 
--- the boxes of the triangles, in the order of their numbers
-abbrev pub boxes_of : MeshLists → List Box3
-boxes_of mesh = map (λ face. tri_box (tri_of mesh.points face)) mesh.faces
+-- the boxes of the triangles of these faces, in the order of their numbers
+abbrev pub boxes_at : List Point → List Face → List Box3
+boxes_at points faces = map (λ face. tri_box (tri_of points face)) faces
 
--- the numbers, counted from one on, of the boxes that meet a box
-abbrev pub overlaps_from : ℕ → Box3 → List Box3 → List ℕ
-overlaps_from number around [] = []
-overlaps_from number around (b ∷ boxes) =
-    if boxes_meet b around then number ∷ overlaps_from (number + 1) around boxes else overlaps_from (number + 1) around boxes
+-- the boxes of the world's triangles
+abbrev pub boxes_now : WorldState → List Box3
+boxes_now world = boxes_at world.now world.mesh.faces
+
+-- the keys of its tree, which are those of the last build
+abbrev pub built_order : WorldState → List Key
+built_order world = order_of (boxes_at world.built world.mesh.faces)
+
+-- the inner nodes of its tree, by number
+abbrev pub table : WorldState → List Node
+table world = table_of (built_order world) (boxes_now world)
+
+-- ---- asks
+
+-- the node of that number, or that there is none
+abbrev pub node_reply : List Node → ℕ → Reply
+node_reply nodes number = if nat_lt number (length nodes) then NodeIs number (node_at nodes number) else Refused NoSuchNode
 
 -- what an ask is answered
 abbrev pub reply_to : WorldState → Ask → Reply
-reply_to world AskNothing = Nothing
-reply_to world (Overlap around) = Overlaps (overlaps_from 1 around (boxes_of world.mesh))
+reply_to world ask.Nothing = Nothing
+reply_to world (ask.Overlap around) = Overlaps (overlaps_of (boxes_now world) around)
+reply_to world (ask.NodeOf number) = node_reply (table world) number
+reply_to world ask.Work = WorkIs world.work
 
--- the state after an ask
-abbrev pub state_after_ask : WorldState → Ask → WorldState
-state_after_ask world AskNothing = world
-state_after_ask world (Overlap around) = world
+-- the state after an ask: a box query leaves its work behind
+abbrev pub state_after : WorldState → Ask → WorldState
+state_after world ask.Nothing = world
+state_after world (ask.Overlap around) = record world { work = work_of (built_order world) (boxes_now world) around }
+state_after world (ask.NodeOf number) = world
+state_after world ask.Work = world
+
+-- the ask takes no memory
+abbrev pub is_free : Ask → Bool
+is_free ask.Nothing = true
+is_free (ask.Overlap around) = false
+is_free (ask.NodeOf number) = true
+is_free ask.Work = true
+
+-- ---- lines
 
 -- what a line is answered: a refusal, or the reply to what it asks
 abbrev pub reply_of : WorldState → Result Ask LineFault → Reply
@@ -56,4 +93,4 @@ reply_of world (Ok ask) = reply_to world ask
 -- the state after a line; a refused line changes nothing
 abbrev pub after : WorldState → Result Ask LineFault → WorldState
 after world (Err fault) = world
-after world (Ok ask) = state_after_ask world ask
+after world (Ok ask) = state_after world ask

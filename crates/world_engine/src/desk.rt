@@ -1,49 +1,24 @@
 //! Who answers a run's script: the world, with what the run has to remember between lines.
 
-use std::alloc::Global;
-use std::marker::Model;
-use std::thread::Threads;
+ghost use Rattle.std.specs.Prelude.{◌≡◌};
 
-use outside::{Gate, Memory};
+use crate::world::World;
+use outside::Memory;
+use query_script::{Reply, is_refused, read_line, reply_text};
+use std::alloc::Global;
 use streams::Answerer;
 
-use crate::lines::read_line;
-use crate::replies::{is_refused, reply_text};
-use crate::reply::Reply;
-use crate::world::World;
-
-/// A world that is asked by a script. Contracts see the world, the unit, and whether some line was refused.
-pub struct Desk<'a, R: Threads + Sync, G: Gate> {
-    pub rt: &'a R,
-    pub gate: &'a G,
+/// A world that is asked by a script.
+#[derive(Drop)]
+pub struct Desk {
     pub world: World,
+    /// Grid steps to one unit of the script.
     pub unit: u32,
+    /// Whether some line was refused.
     pub refused: bool,
 }
 
-impl<'a, R: Threads + Sync, G: Gate> Model for Desk<'a, R, G> {
-    ghost use Rattle.world_engine.specs.Desks.{DeskState};
-
-    ghost Value = { DeskState };
-
-    ghost view = { λ d. record { world = d.world; unit = d.unit; refused = d.refused } };
-}
-
-impl<R: Threads + Sync, G: Gate> Drop for Desk<'_, R, G> {
-    fn drop(self) {
-        let Desk {
-            rt: _,
-            gate: _,
-            world: _,
-            unit: _,
-            refused: _,
-        } = self;
-    }
-}
-
-impl<R: Threads + Sync, G: Gate> Desk<'_, R, G> {
-    ghost use Rattle.std.specs.Prelude.{◌≡◌};
-
+impl Desk {
     /// Whether some line was refused.
     pub fn has_refused(&self) -> bool
         ensures { result ≡ self.now.refused }
@@ -52,7 +27,7 @@ impl<R: Threads + Sync, G: Gate> Desk<'_, R, G> {
     }
 }
 
-impl<R: Threads + Sync, G: Gate> Answerer for Desk<'_, R, G> {
+impl Answerer for Desk {
     ghost use Rattle.world_engine.specs.Desks.{desk_text, desk_after};
 
     ghost text = { desk_text };
@@ -61,15 +36,10 @@ impl<R: Threads + Sync, G: Gate> Answerer for Desk<'_, R, G> {
 
     fn answer(&mut self, alloc: Global, number: u32, line: &[u8]) -> Result<Vec<u8>, Memory> {
         let reply = match read_line(line, self.unit) {
-            Ok(ask) => match self.world.answer(alloc, &ask) {
-                Ok(reply) => reply,
-                Err(_) => return Err(Memory),
-            },
+            Ok(ask) => self.world.reply(alloc, &ask)?,
             Err(fault) => Reply::Refused(fault),
         };
-        let Ok(text) = reply_text(alloc, number, &reply) else {
-            return Err(Memory);
-        };
+        let text = reply_text(alloc, number, &reply)?;
         self.refused = self.refused || is_refused(&reply);
         Ok(text)
     }

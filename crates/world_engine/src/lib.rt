@@ -4,21 +4,20 @@
 //! headline as a clause.
 #![tactic(auto)]
 
-mod ask;
 mod desk;
 mod limits;
-mod lines;
-mod numbers;
-mod replies;
-mod reply;
+mod plans;
+mod refusals;
 mod runs;
 mod stages;
 mod status;
 mod words;
 mod world;
 
+pub use plans::Build;
 pub use runs::run;
 pub use status::Status;
+pub use world::World;
 
 #[cfg(test)]
 mod tests;

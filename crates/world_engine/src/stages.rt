@@ -6,13 +6,14 @@ ghost use Rattle.std.specs.Io.KnownBytes.{Appends};
 ghost use Rattle.outside.specs.Causes.{Rose};
 ghost use Rattle.streams.specs.Taken.{Taken, Loses, IsPrompt};
 ghost use Rattle.obj_text.specs.Texts.{mesh_of, IsRefusalOf};
-ghost use Rattle.world_engine.specs.Replies.{refusal_text};
+ghost use Rattle.world_engine.specs.Refusals.{refusal_text};
 ghost use Rattle.world_engine.specs.Outputs.{script_output, mesh_output, says, status_of};
 ghost use Rattle.world_engine.specs.Runs.{Fulfils, IsFaulty, world_in, replies_to_ended, IsAnswered, IsUntouched};
 
 use crate::desk::Desk;
-use crate::limits::{SCRIPT_MOST, UNIT};
-use crate::replies::refusal_text;
+use crate::limits::{SCRIPT_MOST, UNIT, WORKERS};
+use crate::plans::Build;
+use crate::refusals::refusal_text;
 use crate::status::Status;
 use crate::world::World;
 use obj_text::{MOST_BYTES, Mesh, MeshFault, Why, read_mesh};
@@ -45,9 +46,7 @@ fn status_of(refused: bool) -> Status
 }
 
 /// Answers the script of a world.
-fn answer_script<R: Threads + Sync, S: Source, K: Sink, G: Gate>(
-    rt: &R,
-    gate: &G,
+fn answer_script<S: Source, K: Sink>(
     alloc: Global,
     world: World,
     script: &mut S,
@@ -66,8 +65,6 @@ fn answer_script<R: Threads + Sync, S: Source, K: Sink, G: Gate>(
     ensures sink { K.faults out.old ≤ K.faults out.new }
 {
     let desk = Desk {
-        rt,
-        gate,
         world,
         unit: UNIT,
         refused: false,
@@ -122,10 +119,10 @@ pub fn answer_mesh<R: Threads + Sync, S: Source, K: Sink, G: Gate>(
         Err(MeshFault::Line { line, why }) => return refuse_mesh(alloc, line, why, out),
         Err(MeshFault::Memory) => return Status::Memory,
     };
-    let Ok(world) = World::new(alloc, mesh) else {
+    let Ok(world) = World::new(rt, alloc, mesh, Build::Karras, WORKERS, gate) else {
         return Status::Memory;
     };
-    answer_script(rt, gate, alloc, world, script, out)
+    answer_script(alloc, world, script, out)
 }
 
 /// Writes word that the mesh is refused at a line.

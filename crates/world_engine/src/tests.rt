@@ -1,15 +1,23 @@
-//! Whole runs over devices in memory: worked scripts, failing devices, and the limits of mesh and script.
+//! Whole runs over devices in memory: worked scripts, failing devices, and the limits of mesh and script. And a world
+//! that is asked without a script.
 
 ghost use Rattle.std.specs.Prelude.{◌≤◌, length};
 
-use crate::{Status, run};
+use crate::{Build, Status, World, run};
+use fixed_box::{Box3, Point};
+use obj_text::read_mesh;
 use outside::{Failed, MemShelf, MemSink, MemSource, Name, OpenGate, Shelf, Source};
+use query_script::{Ask, reply_text};
 use std::process::Abort;
 use std::test::Fail;
 use std::thread::Threads;
 
 /// A triangle of four units a side, as a mesh text of 32 bytes.
 const TRIANGLE: &[u8] = b"v 0 0 0\nv 4 0 0\nv 0 4 0\nf 1 2 3\n";
+
+/// Three such triangles in a row, a hundred units apart.
+const THREE: &[u8] =
+    b"v 0 0 0\nv 4 0 0\nv 0 4 0\nv 100 0 0\nv 104 0 0\nv 100 4 0\nv 200 0 0\nv 204 0 0\nv 200 4 0\nf 1 2 3\nf 4 5 6\nf 7 8 9\n";
 
 /// A box that touches the triangle's box and not the triangle, as a script line.
 const TOUCHING: &[u8] = b"box 4 4 0 9 9 0\n";
@@ -83,7 +91,7 @@ fn comes_to<R: Threads + Sync + Abort + AllocGlobal>(
 
 #[test]
 fn worked_scripts_are_answered_byte_for_byte(rt: HostRuntime) -> Result<(), Fail> {
-    let rows: [(&str, &[u8], &[u8], Status, &[u8]); 11] = [
+    let rows: [(&str, &[u8], &[u8], Status, &[u8]); 16] = [
         (
             "boxes touch where triangles do not",
             TRIANGLE,
@@ -144,9 +152,44 @@ fn worked_scripts_are_answered_byte_for_byte(rt: HostRuntime) -> Result<(), Fail
         (
             "a triangle named twice",
             b"v 0 0 0\nv 4 0 0\nv 0 4 0\nf 1 2 3\nf 1 2 3\n",
-            b"box 4 4 0 9 9 0\n",
+            b"box 4 4 0 9 9 0\nwork\n",
             Status::Done,
-            b"overlaps 2: 1 2\n",
+            b"overlaps 2: 1 2\nwork 3\n",
+        ),
+        (
+            "one triangle is one box to test",
+            TRIANGLE,
+            b"work\nbox 4 4 0 9 9 0\nwork\n",
+            Status::Done,
+            b"work 0\noverlaps 1: 1\nwork 1\n",
+        ),
+        (
+            "nodes of three triangles, in grid steps",
+            THREE,
+            b"node 0\nnode 1\nnode 2\n",
+            Status::LinesRefused,
+            b"node 0 0 2 1 0 0 0 13056 256 0\nnode 1 0 1 0 0 0 0 6656 256 0\nline 3: no such node\n",
+        ),
+        (
+            "each reason to refuse a line",
+            TRIANGLE,
+            b"frob 1\nbox 1 2 3\nbox a 0 0 1 1 1\n# node\nnode 0\nnode -1\nnode 1234567890123456789012345\nwork 1\n",
+            Status::LinesRefused,
+            b"line 1: unknown word\nline 2: wrong count of words\nline 3: not a number\nline 5: no such node\nline 6: not a number\nline 7: number too long\nline 8: wrong count of words\n",
+        ),
+        (
+            "a refused line leaves the work as it is",
+            TRIANGLE,
+            b"box 0 0 0 1 1 1\nbox 0 0 0 1 1\nnode 7\nwork\n",
+            Status::LinesRefused,
+            b"overlaps 1: 1\nline 2: wrong count of words\nline 3: no such node\nwork 1\n",
+        ),
+        (
+            "an unfinished line of too few words",
+            TRIANGLE,
+            b"box 4 4 0 9 9",
+            Status::LinesRefused,
+            b"line 1: wrong count of words\n",
         ),
         (
             "a box far outside",
@@ -327,11 +370,80 @@ fn mesh_and_script_have_their_limits_to_the_byte(rt: HostRuntime) -> Result<(), 
     many_come_to(
         &rt,
         0,
+        1_001,
+        Status::LinesRefused,
+        b"line 1: line too long\n",
+        0,
+        "a line one byte too long",
+    )?;
+    many_come_to(
+        &rt,
+        0,
+        1_000,
+        Status::Done,
+        b"",
+        0,
+        "a comment at the limit of a line",
+    )?;
+    many_come_to(
+        &rt,
+        0,
         16_777_216,
         Status::LinesRefused,
-        b"line 1: unknown word\n",
+        b"line 1: line too long\n",
         0,
         "a script at its limit",
     )?;
+    Ok(())
+}
+
+/// Asks the world, and compares the text of its reply.
+fn answers<R: Threads + Sync + Abort + AllocGlobal>(
+    rt: &R,
+    world: &mut World,
+    ask: &Ask,
+    text: &[u8],
+    name: &str,
+) -> Result<(), Fail> {
+    let alloc = rt.alloc();
+    let reply = world
+        .answer(rt, alloc, &OpenGate, ask)
+        .map_err(|_| "no memory for a reply")?;
+    let got = reply_text(alloc, 1, &reply).map_err(|_| "no memory for a text")?;
+    assert!(rt; got.as_slice() == text, "{name}");
+    Ok(())
+}
+
+#[test]
+fn a_world_is_asked_without_a_script(rt: HostRuntime) -> Result<(), Fail> {
+    let alloc = rt.alloc();
+    let mesh = read_mesh(alloc, THREE, 1).map_err(|_| "the mesh is refused")?;
+    let mut world = World::new(&rt, alloc, mesh, Build::Karras, 64, &OpenGate).map_err(
+        |_| "no memory for the world",
+    )?;
+    let around = Box3::of_corners(Point { x: 104, y: 4, z: 0 }, Point { x: 200, y: 9, z: 0 });
+    let rows: [(&str, Ask, &[u8]); 6] = [
+        (
+            "a node",
+            Ask::NodeOf { number: 1 },
+            b"node 1 0 1 0 0 0 0 104 4 0\n",
+        ),
+        ("a box", Ask::Overlap { around }, b"overlaps 2: 2 3\n"),
+        (
+            "no such node",
+            Ask::NodeOf { number: 2 },
+            b"line 1: no such node\n",
+        ),
+        (
+            "a number past all",
+            Ask::NodeOf { number: 1 << 40 },
+            b"line 1: no such node\n",
+        ),
+        ("the work of the box", Ask::Work, b"work 5\n"),
+        ("nothing", Ask::Nothing, b""),
+    ];
+    for (name, ask, text) in rows {
+        answers(&rt, &mut world, &ask, text, name)?;
+    }
     Ok(())
 }

@@ -1,6 +1,6 @@
-use Rattle.std.proofs.Common.{◌≡◌, None, Some, ◌∙◌, inl, inr, rules}
+use Rattle.std.proofs.Common.{◌≡◌, None, Some, ◌∙◌, inl, inr}
 use Rattle.world_engine.proofs.Stops.{stopped_told}
-use Rattle.world_engine.proofs.Refusals.{refused_is_faulty}
+use Rattle.world_engine.proofs.RefusedMeshes.{refused_is_faulty}
 use Rattle.world_engine.proofs.runs.run_words.Goals as goal
 
 pub returns-in-Ok-Whole-clause-unread : goal.returns-in-Ok-Whole-clause-unread

@@ -1,9 +1,9 @@
 use Rattle.std.proofs.Common.{Err, ap, ◌∙◌}
 use Rattle.world_engine.specs.Outputs.{status_of}
 use Rattle.streams.proofs.Prompt.{prompt_cut}
-use Rattle.world_engine.specs.Desks.{new_desk, desk_text, desk_after}
+use Rattle.world_engine.specs.Desks.{desk_text, desk_after}
 use Rattle.world_engine.specs.declared.limits.TheConstants.{UNIT, SCRIPT_MOST}
-use Rattle.world_engine.proofs.DeskAnswers.{script_stops, script_ends, script_cut, taken_replies, prompt_replies}
+use Rattle.world_engine.proofs.DeskAnswers.{new_desk, script_stops, script_ends, script_cut, taken_replies, prompt_replies}
 use Rattle.world_engine.proofs.Ends.{whole_is_within, too_long_is_past}
 use Rattle.world_engine.proofs.stages.answer_script.Goals as goal
 

@@ -1,5 +1,5 @@
 -- A mesh file that is refused, where it was loaded whole.
-use Rattle.std.proofs.Common.{◌≡◌, ◌⊎◌, inl, inr, ℕ, List, Option, None, Some, sym, subst, arith, Global}
+use Rattle.std.proofs.Common.{◌≡◌, inl, inr, ℕ, List, Option, None, Some, sym, subst, arith, Global}
 use Rattle.std.specs.declared.vec.Vec.{Vec}
 use Rattle.std.specs.FinMap.{get}
 use Rattle.outside.specs.Files.{Files, FileIs}

@@ -1,0 +1,13 @@
+-- What is written where a mesh is refused at a line.
+use Rattle.std.specs.Prelude.{ℕ, List, ◌++◌, codes, decimal}
+use Rattle.obj_text.specs.Texts.{FaultyLine}
+use Rattle.obj_text.specs.declared.fault.Why.{Why}
+use Rattle.obj_text.specs.declared.fault.Why.TheVariants.{FormNotRead}
+
+-- why a mesh line is refused
+abbrev pub why_text : Why → List ℕ
+why_text FormNotRead = codes "form not read"
+
+-- a mesh is refused at a line
+abbrev pub refusal_text : FaultyLine → List ℕ
+refusal_text fault = codes "mesh line " ++ (decimal fault.line ++ (codes ": " ++ (why_text fault.why ++ codes "\n")))
