@@ -4,7 +4,7 @@ use Rattle.std.proofs.lemmas.List.{length-take}
 use Rattle.std.proofs.Math.Seq.{drop-append_seam}
 use Rattle.std.specs.declared.vec.Vec.{Vec}
 use Rattle.std.proofs.Common.{Global}
-use Rattle.outside.specs.Files.{Files, FileIs, FetchGives, IsPieceOf}
+use Rattle.outside.specs.Files.{Files, FileIs, FetchGives}
 use Rattle.streams.specs.declared.loads.Loaded.TheVariants.{Whole, TooLong}
 use Rattle.streams.specs.Loads.{IsLoadedFile}
 

@@ -1,9 +1,9 @@
 -- What a source that tells its bytes has given so far.
-use Rattle.std.proofs.Common.{◌≡◌, ◌≤◌, ◌<◌, ◌+◌, ℕ, List, [], ◌++◌, Option, None, Some, IfSome, drop, length, refl, sym, ap, ◌∙◌, subst, append_assoc, append-nil, length-append, arith}
+use Rattle.std.proofs.Common.{◌≡◌, ◌≤◌, ◌+◌, ℕ, List, [], ◌++◌, Option, None, Some, IfSome, drop, length, refl, sym, ap, ◌∙◌, subst, append_assoc, append-nil, length-append, arith}
 use Rattle.std.specs.Io.KnownBytes.{Consumes, Keeps, IsAtEnd, prepend_known}
 use Rattle.std.proofs.Math.Seq.{drop-append_seam}
 use Rattle.std.proofs.Math.ListN.{drop_of_length-le}
-use Rattle.streams.specs.Taken.{Taken, Loses}
+use Rattle.streams.specs.Taken.{Taken, Loses, LosesAtMost}
 
 -- it gave n bytes, of which a fact holds
 abbrev pub Gave : Option (List ℕ) → Option (List ℕ) → ℕ → (List ℕ → Type 0) → Type 0
@@ -82,3 +82,20 @@ loses_given None b n most P e gave = tt
 loses_given (Some bytes) None n most P e gave = absurd gave
 loses_given (Some bytes) (Some rest) n most P e gave =
     sym (ap (drop most) gave.1 ∙ ap (λ k. drop k (gave.0 ++ rest)) (sym (gave.2 ∙ e)) ∙ drop-append_seam gave.0 rest)
+
+-- a source that gave n bytes has lost at most as many
+pub loses_few : (a b : Option (List ℕ)) (n most : ℕ) (P : List ℕ → Type 0) → n ≤ most → Gave a b n P → LosesAtMost most a b
+loses_few None b n most P few gave = tt
+loses_few (Some bytes) None n most P few gave = absurd gave
+loses_few (Some bytes) (Some rest) n most P few gave = (gave.0, gave.1, omega (arith, gave.2))
+
+-- and one piece more
+pub loses_more : (a b c : Option (List ℕ)) (n most : ℕ) (piece : List ℕ) (P : List ℕ → Type 0) → Gave a b n P → Consumes b c piece → n + length piece ≤ most
+    → LosesAtMost most a c
+loses_more a b c n most piece P gave eats few =
+    loses_few a c (n + length piece) most (λ front. Unit {0}) few (gave_more a b c n (length piece) piece P (λ front. Unit {0}) gave eats refl (λ front p. tt))
+
+-- a source that was not read has lost nothing
+pub loses_none : (left : Option (List ℕ)) (most : ℕ) → LosesAtMost most left left
+loses_none None most = tt
+loses_none (Some bytes) most = ([], refl, omega arith)

@@ -1,7 +1,6 @@
 -- A session that stops at a failed write has taken less than a piece behind the first line feed before which not all was written.
-use Rattle.std.proofs.Common.{◌≡◌, ◌≤◌, ◌<◌, ◌+◌, ◌-◌, ◌==◌, ◌⊎◌, inl, inr, ℕ, Bool, true, false, cond, List, [], ◌∷◌, ◌++◌, Option, None, Some, IfSome, take, drop, length, refl, sym, ap, ◌∙◌, subst, append_assoc, append-nil, length-append, arith, take-append-drop}
+use Rattle.std.proofs.Common.{◌≡◌, ◌≤◌, ◌<◌, ◌+◌, ◌==◌, inl, inr, ℕ, true, false, cond, List, [], ◌∷◌, ◌++◌, Option, None, Some, IfSome, take, drop, length, refl, sym, ap, ◌∙◌, subst, length-append, arith, take-append-drop}
 use Rattle.std.specs.Io.KnownBytes.{Appends, Consumes}
-use Rattle.std.proofs.Math.Seq.{take-append_seam}
 use Rattle.std.proofs.lemmas.List.{length-take-le, length-drop}
 use Rattle.std.proofs.lemmas.Bool.{cases_lt}
 use Rattle.text_words.specs.Lines.{onto_line, cut_lines, IsOneLine}

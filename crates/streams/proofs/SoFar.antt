@@ -1,7 +1,7 @@
 -- An answerer in the midst of a script: what was answered of the bytes so far, and what that gives at each end.
-use Rattle.std.proofs.Common.{◌≡◌, ◌≤◌, ◌<◌, ◌+◌, ℕ, Bool, true, false, List, [], ◌++◌, Option, None, Some, IfSome, length, refl, sym, ap, ◌∙◌, subst, append_assoc, append-nil, length-append, arith}
+use Rattle.std.proofs.Common.{◌≡◌, ◌≤◌, ◌<◌, ℕ, Bool, true, false, List, [], ◌++◌, Option, None, Some, IfSome, length, refl, sym, ap, ◌∙◌, subst, append_assoc, append-nil, length-append, arith}
 use Rattle.std.specs.Io.KnownBytes.{Appends, IsAtEnd, prepend_known}
-use Rattle.text_words.specs.Lines.{cut_lines, IsOneLine}
+use Rattle.text_words.specs.Lines.{IsOneLine}
 use Rattle.streams.specs.Owed.{Owes, AppendsFront}
 use Rattle.streams.specs.Answers.{answers_from, state_after, lines_within, text_left, state_left}
 use Rattle.streams.proofs.Debts.{owes_all, owes_more, owes_none, owes_less, owes_front_of}

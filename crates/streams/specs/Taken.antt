@@ -1,5 +1,5 @@
 -- What a source has given, where it tells its bytes.
-use Rattle.std.specs.Prelude.{◌≡◌, ◌<◌, ℕ, ◌+◌, List, [], ◌∷◌, ◌++◌, Option, None, Some, drop, length, ⊤}
+use Rattle.std.specs.Prelude.{◌≡◌, ◌<◌, ◌≤◌, ℕ, ◌+◌, List, [], ◌∷◌, ◌++◌, Option, None, Some, drop, length, ⊤}
 use Rattle.streams.specs.declared.loads.TheConstants.{PIECE}
 
 -- the bytes that it gave, of which a fact holds
@@ -13,6 +13,10 @@ abbrev pub Loses : ℕ → Option (List ℕ) → Option (List ℕ) → Type 0
 Loses n None new = ⊤
 Loses n (Some bytes) None = ⊥
 Loses n (Some bytes) (Some rest) = rest ≡ drop n bytes
+
+-- it has lost at most the first n of its bytes
+abbrev pub LosesAtMost : ℕ → Option (List ℕ) → Option (List ℕ) → Type 0
+LosesAtMost n left new = Taken left new (λ front. length front ≤ n)
 
 -- behind each line feed before which not all answers were written, less than a piece was taken
 abbrev pub IsPrompt : (List ℕ → List ℕ) → Option (List ℕ) → Option (List ℕ) → Option (List ℕ) → Option (List ℕ) → Type 0

@@ -6,7 +6,7 @@ ghost use Rattle.std.specs.Io.KnownBytes.{Appends};
 ghost use Rattle.outside.specs.Causes.{Rose};
 ghost use Rattle.streams.specs.Owed.{AppendsFront};
 ghost use Rattle.streams.specs.Answers.{answers_from, state_after, lines_within, text_left};
-ghost use Rattle.streams.specs.Taken.{Taken, Loses, IsPrompt};
+ghost use Rattle.streams.specs.Taken.{Taken, Loses, LosesAtMost, IsPrompt};
 
 use crate::session::Session;
 use crate::{Answerer, Ended, PIECE, Stop};
@@ -37,6 +37,9 @@ pub fn answer_lines<A: Answerer + Drop, S: Source, K: Sink>(
     ensures state { IfSome (S.left script.old) (λ bytes. IfOk result (λ done. done.answerer ≡ state_after A.after answerer (lines_within limit bytes))) }
     ensures ended { IfSome (S.left script.old) (λ bytes. IfOk result (λ done. (done.ended ≡ Ended.TooLong) ↔ (limit < length bytes))) }
     ensures taken { OnOk result (Loses (limit + 1) (S.left script.old) (S.left script.new)) }
+
+    // However it ends, it takes no more than one byte past the limit.
+    ensures most { LosesAtMost (limit + 1) (S.left script.old) (S.left script.new) }
 
     // Else a front of them was: after a failed read, the answers to the lines that ended in what was taken.
     ensures front { IfSome (S.left script.old) (λ bytes. OnErr result (

@@ -3,7 +3,7 @@
 ghost use Rattle.std.specs.Prelude.{◌≡◌, ◌⊎◌, ◌≤◌, ◌+◌, None, IfSome};
 ghost use Rattle.std.specs.Io.KnownBytes.{Appends};
 ghost use Rattle.outside.specs.Causes.{Rose};
-ghost use Rattle.streams.specs.Taken.{Taken, Loses, IsPrompt};
+ghost use Rattle.streams.specs.Taken.{Taken, Loses, LosesAtMost, IsPrompt};
 ghost use Rattle.world_engine.specs.Words.{mesh_name, texts_of};
 ghost use Rattle.world_engine.specs.Outputs.{output_of};
 ghost use Rattle.world_engine.specs.Runs.{Fulfils, IsComplete, IsAbsentMesh, MeshIs, IsRefusedFile, IsRefusedMesh, world_of_name, replies_to_ended, IsAnswered, IsUntouched};
@@ -63,9 +63,10 @@ pub fn run<R: Threads + Sync, H: Shelf, S: Source, K: Sink, G: Gate>(
     ensures prompt { result ≡ Status.WriteFault → IfSome (world_of_name (H.holds shelf.old) (mesh_name (texts_of words.now))) (λ world.
         IsPrompt (replies_to_ended world) (S.left script.old) (S.left script.new) (K.written out.old) (K.written out.new)) }
 
-    // A script that was answered was read to its end, or to the first byte past its limit. Neither shelf nor script is
-    // touched where the words are refused, nor the script where the mesh is.
+    // A script that was answered was read to its end, or to the first byte past its limit, and no run takes more of it
+    // than that. Neither shelf nor script is touched where the words are refused, nor the script where the mesh is.
     ensures taken { IsAnswered result → Loses (SCRIPT_MOST + 1) (S.left script.old) (S.left script.new) }
+    ensures most { LosesAtMost (SCRIPT_MOST + 1) (S.left script.old) (S.left script.new) }
     ensures untouched { mesh_name (texts_of words.now) ≡ None → IsUntouched (H.holds shelf.old) (H.holds shelf.new) (H.faults shelf.old) (H.faults shelf.new) }
     ensures unread { (mesh_name (texts_of words.now) ≡ None) ⊎ (result ≡ Status.MeshRefused) ⊎ IsRefusedMesh (H.holds shelf.old) (mesh_name (texts_of words.now))
         → IsUntouched (S.left script.old) (S.left script.new) (S.faults script.old) (S.faults script.new) }
@@ -101,6 +102,7 @@ fn run_words<R: Threads + Sync, H: Shelf, S: Source, K: Sink, G: Gate>(
     ensures prompt { result ≡ Status.WriteFault → IfSome (world_of_name (H.holds shelf.old) (mesh_name (texts_of words.now))) (λ world.
         IsPrompt (replies_to_ended world) (S.left script.old) (S.left script.new) (K.written out.old) (K.written out.new)) }
     ensures taken { IsAnswered result → Loses (SCRIPT_MOST + 1) (S.left script.old) (S.left script.new) }
+    ensures most { LosesAtMost (SCRIPT_MOST + 1) (S.left script.old) (S.left script.new) }
     ensures untouched { mesh_name (texts_of words.now) ≡ None → IsUntouched (H.holds shelf.old) (H.holds shelf.new) (H.faults shelf.old) (H.faults shelf.new) }
     ensures unread { (mesh_name (texts_of words.now) ≡ None) ⊎ (result ≡ Status.MeshRefused) ⊎ IsRefusedMesh (H.holds shelf.old) (mesh_name (texts_of words.now))
         → IsUntouched (S.left script.old) (S.left script.new) (S.faults script.old) (S.faults script.new) }

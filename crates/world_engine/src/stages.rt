@@ -4,7 +4,7 @@
 ghost use Rattle.std.specs.Prelude.{◌≡◌, ◌⊎◌, ◌≤◌, ◌+◌, ◌≢◌, Ok, IfSome, IfOk, IfErr, length};
 ghost use Rattle.std.specs.Io.KnownBytes.{Appends};
 ghost use Rattle.outside.specs.Causes.{Rose};
-ghost use Rattle.streams.specs.Taken.{Taken, Loses, IsPrompt};
+ghost use Rattle.streams.specs.Taken.{Taken, Loses, LosesAtMost, IsPrompt};
 ghost use Rattle.obj_text.specs.Texts.{mesh_of, IsRefusalOf};
 ghost use Rattle.world_engine.specs.Refusals.{refusal_text};
 ghost use Rattle.world_engine.specs.Outputs.{script_output, mesh_output, says, status_of};
@@ -61,6 +61,7 @@ fn answer_script<S: Source, K: Sink>(
         Appends (K.written out.old) (K.written out.new) (replies_to_ended world front)) }
     ensures prompt { result ≡ Status.WriteFault → IsPrompt (replies_to_ended world) (S.left script.old) (S.left script.new) (K.written out.old) (K.written out.new) }
     ensures taken { IsAnswered result → Loses (SCRIPT_MOST + 1) (S.left script.old) (S.left script.new) }
+    ensures most { LosesAtMost (SCRIPT_MOST + 1) (S.left script.old) (S.left script.new) }
     ensures source { S.faults script.old ≤ S.faults script.new }
     ensures sink { K.faults out.old ≤ K.faults out.new }
 {
@@ -109,6 +110,7 @@ pub fn answer_mesh<R: Threads + Sync, S: Source, K: Sink, G: Gate>(
     ensures prompt { result ≡ Status.WriteFault → IfSome (world_in (mesh_of UNIT text.items)) (λ world.
         IsPrompt (replies_to_ended world) (S.left script.old) (S.left script.new) (K.written out.old) (K.written out.new)) }
     ensures taken { IsAnswered result → Loses (SCRIPT_MOST + 1) (S.left script.old) (S.left script.new) }
+    ensures most { LosesAtMost (SCRIPT_MOST + 1) (S.left script.old) (S.left script.new) }
     ensures refused { result ≡ Status.MeshRefused → IsUntouched (S.left script.old) (S.left script.new) (S.faults script.old) (S.faults script.new) }
     ensures faulty { IsFaulty (mesh_of UNIT text.items) → IsUntouched (S.left script.old) (S.left script.new) (S.faults script.old) (S.faults script.new) }
     ensures source { S.faults script.old ≤ S.faults script.new }

@@ -1,10 +1,10 @@
-use Rattle.std.proofs.Common.{◌≡◌, ◌≤◌, ◌<◌, ◌+◌, ◌-◌, ◌++◌, false, [], length, take, drop, refl, sym, ap, ◌∙◌, subst, arith}
+use Rattle.std.proofs.Common.{◌≡◌, ◌≤◌, ◌<◌, ◌+◌, ◌++◌, false, [], length, take, drop, sym, ap, ◌∙◌, subst, arith}
 use Rattle.std.proofs.lemmas.Grind.{common_steps}
 use Rattle.std.proofs.lemmas.Result.{err_from_is_err_and}
 use Rattle.std.proofs.lemmas.List.{take-append-le}
 use Rattle.std.specs.Io.KnownBytes.{Consumes}
 use Rattle.streams.specs.declared.loads.TheConstants.{PIECE}
-use Rattle.streams.proofs.Gifts.{gave_more, gave_map, gave_same, gave_kept, gave_is_taken, consumes_part, loses_all, loses_given}
+use Rattle.streams.proofs.Gifts.{gave_more, gave_map, gave_same, gave_kept, gave_is_taken, consumes_part, loses_given, loses_more}
 use Rattle.streams.proofs.Parts.{part_and_tail, length-part, length-tail}
 use Rattle.streams.proofs.Prompt.{prompt}
 use Rattle.streams.proofs.SoFar.{answered_more, written_now, written_more, all_ended, front_within, front_whole, text_cut, state_cut}
@@ -112,6 +112,22 @@ returns-then-limit-taken-clause-taken g c =
     let all : c.loop-count.taken + count ≡ c.args.limit + 1 = grind (arith, common_steps) in
     loses_given _ _ (c.loop-count.taken + count) (c.args.limit + 1) (λ front. Unit {0}) all
     (gave_more _ _ _ _ count (take count c.read.new.buf) _ _ c.loop-count.invariant.gave c.in-Ok.ensures.bytes.0 (sym c.in-Ok.ensures.bound.1) (λ front p. tt))
+
+pub returns-in_err-feed-clause-most : goal.returns-in_err-feed-clause-most
+returns-in_err-feed-clause-most g c =
+    let count = c.in-Ok.count in
+    let within : count ≤ length c.read.new.buf = c.in-Ok.ensures.bound.0 in
+    let few : c.loop-count.taken + count ≤ c.args.limit + 1 = grind (arith, common_steps) in
+    loses_more _ _ _ c.loop-count.taken (c.args.limit + 1) (take count c.read.new.buf) _ c.loop-count.invariant.gave c.in-Ok.ensures.bytes.0
+    (omega (arith, few, c.in-Ok.ensures.bound.1))
+
+pub returns-then-limit-taken-clause-most : goal.returns-then-limit-taken-clause-most
+returns-then-limit-taken-clause-most g c =
+    let count = c.in-Ok.count in
+    let within : count ≤ length c.read.new.buf = c.in-Ok.ensures.bound.0 in
+    let few : c.loop-count.taken + count ≤ c.args.limit + 1 = grind (arith, common_steps) in
+    loses_more _ _ _ c.loop-count.taken (c.args.limit + 1) (take count c.read.new.buf) _ c.loop-count.invariant.gave c.in-Ok.ensures.bytes.0
+    (omega (arith, few, c.in-Ok.ensures.bound.1))
 
 pub loop-count-preserved : goal.loop-count-preserved
 loop-count-preserved g c =

@@ -1,4 +1,4 @@
-use Rattle.std.proofs.Common.{◌≡◌, ◌≤◌, ◌++◌, length, take, drop, refl, ap, ◌∙◌, arith, rules}
+use Rattle.std.proofs.Common.{◌≤◌, ◌++◌, length, take, refl, ap, ◌∙◌, arith, rules}
 use Rattle.std.proofs.lemmas.Grind.{common_steps}
 use Rattle.std.proofs.lemmas.List.{take-append-le}
 use Rattle.streams.proofs.Fetches.{FileIs-any, front_none, front_next}
