@@ -9,3 +9,8 @@ pub mod Walking
 pub mod Work
 pub mod Roots
 pub mod Answer
+pub mod HitOrder
+pub mod BestHit
+pub mod SegmentPruning
+pub mod NearestWalk
+pub mod NearestLaws

@@ -9,9 +9,10 @@ use Rattle.fixed_box.specs.Extent.{boxes_meet}
 use Rattle.fixed_box.proofs.ByCorners.{meets_container}
 use Rattle.fixed_box.proofs.MeetingTest.{boxes_meet_is}
 use Rattle.morton_key.specs.declared.keys.Key.{Key}
+use Rattle.morton_key.specs.Keys.{tri_at}
 use Rattle.radix_tree.specs.Table.{Contents, node_at}
 use Rattle.radix_tree.specs.Fit.{box_of_triangle, boxes_in, IsFitted}
-use Rattle.radix_tree.proofs.FitLaws.{boxes_in-parted}
+use Rattle.radix_tree.proofs.FitLaws.{boxes_in-one, boxes_in-parted}
 use Rattle.traversal.specs.Walks.{key_meets, met_in}
 use Rattle.traversal.proofs.Counting.{filter-none}
 
@@ -94,6 +95,17 @@ module _ (t : Contents) (boxes : List Box3) (fitted : IsFitted t boxes) where
       let all = (fitted.each j inside).contains in
       (fitted.each k lt).least x.fit (all_upto (Contains x.fit) boxes t.keys y.first y.last x.last order high
       (all_from (Contains x.fit) boxes t.keys x.first y.first x.last low (omega arith) all))
+
+  -- and the boxes of the triangles in its range
+  pub box_contains_triangle : (k i : ℕ) → k < length t.nodes → (node_at t.nodes k).first ≤ i →
+      i ≤ (node_at t.nodes k).last → i < length t.keys →
+      Contains (node_at t.nodes k).fit (box_of_triangle boxes (tri_at t.keys i))
+  box_contains_triangle k i lt low high within =
+      let x = node_at t.nodes k in
+      let P = Contains x.fit in
+      let here = all_upto P boxes t.keys i i x.last (omega arith) high
+      (all_from P boxes t.keys x.first i x.last low high (fitted.each k lt).contains) in
+      All-head P (box_of_triangle boxes (tri_at t.keys i)) [] (subst (All P) (boxes_in-one boxes t.keys i within) here)
 
   -- below a node whose box misses the query no triangle is met
   pub missed_node_meets_none : (q : Box3) (k : ℕ) → k < length t.nodes → boxes_meet (node_at t.nodes k).fit q ≡ false →

@@ -95,7 +95,8 @@ module _ (t : Contents) (table : IsTable t) (boxes : List Box3) (fitted : IsFitt
   missed k j a b lt e d low high =
       let row = row_range t table j a b d in
       let order = proper t.keys table.lawful d in
-      let contains = box_contains_below t boxes fitted k j lt row.0 (omega (arith, row.1)) (omega (arith, row.1, row.2))
+      let contains = box_contains_below t boxes fitted k j lt row.0 (omega (arith, row.1))
+      (omega (arith, row.1, row.2))
       (omega (arith, row.2)) in
       contained_misses (node_at t.nodes k).fit (node_at t.nodes j).fit q contains e
 

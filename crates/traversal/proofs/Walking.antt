@@ -41,7 +41,7 @@ module _ {t : Contents} {boxes : List Box3} {child : Child} {k : ℕ} (here : At
   node = node_at t.nodes k
 
   -- a range of the child is the node's
-  own_range : (a b : ℕ) → HasRange t.keys child a b → (node.first ≡ a) × (node.last ≡ b)
+  pub own_range : (a b : ℕ) → HasRange t.keys child a b → (node.first ≡ a) × (node.last ≡ b)
   own_range a b d =
       let row = row_range t here.table k a b (subst (λ x. HasRange t.keys x a b) here.is d) in (row.1, row.2)
 

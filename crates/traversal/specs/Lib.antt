@@ -1,2 +1,4 @@
 pub mod Overlaps
+pub mod Nearest
 pub mod Walks
+pub mod Nearing

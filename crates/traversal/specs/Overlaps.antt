@@ -19,7 +19,7 @@ overlaps_from number around (b ∷ boxes) =
 unfoldable pub overlaps_of : List Box3 → Box3 → List ℕ
 overlaps_of boxes around = overlaps_from 1 around boxes
 
--- the upper node is the lower one, or stands above it: its range holds the lower one's
+-- the upper node is the lower one, or stands above it: its range holds the lower one's, since the ranges of a tree nest
 unfoldable pub is_at_or_above : Node → Node → Bool
 is_at_or_above upper lower = nat_le upper.first lower.first && nat_le lower.last upper.last
 

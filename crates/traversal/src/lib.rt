@@ -1,12 +1,15 @@
-//! Box queries over a tree of triangles: a walk that prunes, and answers what a test of every triangle would.
+//! Queries over a tree of triangles: walks that prune, and answer what a test of every triangle would.
 //!
 //! A node's box goes round all triangles below it, so where it misses the query nothing below is looked at.
 #![tactic(auto)]
 
 mod found;
+mod nearest_hit;
 mod overlapping;
+mod steps;
 
 pub use found::{Found, Numbers};
+pub use nearest_hit::nearest;
 pub use overlapping::overlaps;
 
 #[cfg(test)]

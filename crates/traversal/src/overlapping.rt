@@ -2,14 +2,14 @@
 //! It lists triangles in the order of the tree, so the list is sorted once, at the end.
 
 ghost use Rattle.std.specs.Prelude.{◌≡◌, ℕ, ◌+◌, ◌-◌, ◌*◌, ◌^◌, ◌<◌, ◌++◌, length, IfOk, OnOk};
-ghost use Rattle.fixed_box.specs.Extent.{boxes_meet};
 ghost use Rattle.radix_tree.specs.Ranges.{HasRange};
-ghost use Rattle.radix_tree.specs.Table.{IsTable, node_at};
+ghost use Rattle.radix_tree.specs.Table.{IsTable};
 ghost use Rattle.radix_tree.specs.Fit.{IsFitted};
 ghost use Rattle.radix_tree.specs.Filling.{IsChild};
 ghost use Rattle.traversal.specs.Overlaps.{overlaps_of, work_of};
 ghost use Rattle.traversal.specs.Walks.{met_in, met_below};
 
+use crate::steps::{node_meets, root};
 use crate::{Found, Numbers};
 use fixed_box::{Box3, meets};
 use outside::Memory;
@@ -35,14 +35,6 @@ fn test_leaf(
         numbers.push(tri)?;
     }
     Ok(())
-}
-
-/// Whether the box of the node of that number meets the queried one.
-fn node_meets(t: &Tree, q: &Box3, number: u32) -> bool
-    requires { number < length t.now.nodes }
-    ensures { result ≡ boxes_meet (node_at t.now.nodes number).fit q.now }
-{
-    meets(&t.nodes()[number as usize].fit, q)
 }
 
 /// Adds the triangles below a child whose boxes meet the queried one, and answers how many boxes it tested.
@@ -91,13 +83,9 @@ fn collect_all(
     ensures tests { IfOk result (λ tests. tests ≡ work_of t.now.keys boxes.now q.now) }
     ensures table { IsTable t.now }
 {
-    let count = t.keys().len();
-    if count == 0 {
-        Ok(0)
-    } else if count == 1 {
-        collect(t, boxes, q, Child::Leaf(0), numbers)
-    } else {
-        collect(t, boxes, q, Child::Inner(0), numbers)
+    match root(t) {
+        Some(child) => collect(t, boxes, q, child, numbers),
+        None => Ok(0),
     }
 }
 
