@@ -2,7 +2,7 @@
 use Rattle.std.proofs.Common.{◌≡◌, refl, Ok, Err, pos, negsuc}
 use Rattle.std.specs.Prelude.{codes}
 use Rattle.fixed_box.specs.Extent.{corner_box}
-use Rattle.query_script.specs.Asks.{ask_of}
+use Rattle.query_script.specs.Asks.{ask_of, steps_of}
 use Rattle.query_script.specs.declared.asks.Ask.TheVariants as ask
 use Rattle.query_script.specs.declared.faults.LineFault.TheVariants.{UnknownWord, WrongCount, NotANumber, NumberTooLong, OutOfRange}
 
@@ -12,6 +12,7 @@ corners
     ≡ Ok (ask.Overlap (corner_box
     (record { x = pos 576; y = negsuc 255; z = pos 0 })
     (record { x = pos 256; y = pos 576; z = pos 0 })))
+unfolding steps_of
 corners = refl
 
 -- leading zeros, blanks, comments
@@ -31,11 +32,18 @@ first_word = refl
 count : ask_of 1 (codes "box a 0 0 0 0") ≡ Err WrongCount
 count = refl
 
-from_left_to_right : ask_of 65536 (codes "box 9999999 a 0 0 0 0") ≡ Err OutOfRange
+from_left_to_right : ask_of 1 (codes "box 2147483648 a 0 0 0 0") ≡ Err OutOfRange
+unfolding steps_of
 from_left_to_right = refl
 
-seven_digits : ask_of 1 (codes "box 2147483648 0 0 0 0 0") ≡ Err NotANumber
-seven_digits = refl
+-- halves of a grid step, upward; a sign and an exponent
+decimal_corners
+    : ask_of 64 (codes "box 1.5 -0.0078125 +2e0 0.0078125 0 0")
+    ≡ Ok (ask.Overlap (corner_box
+    (record { x = pos 96; y = pos 0; z = pos 128 })
+    (record { x = pos 1; y = pos 0; z = pos 0 })))
+unfolding steps_of
+decimal_corners = refl
 
 twenty_five_digits : ask_of 1 (codes "node 1234567890123456789012345") ≡ Err NumberTooLong
 twenty_five_digits = refl

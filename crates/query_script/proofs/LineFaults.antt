@@ -1,17 +1,15 @@
 -- The faults that reading a line may have: all but that of a missing node, which only a world knows.
 use Rattle.std.proofs.Common.{◌≢◌, ℕ, Bool, true, false, List, ◌==◌, ◌&&◌, length, drop, ℤ, pos, neg_ℤ, ◌*ℤ◌, Option, None, Some, Result, Ok, Err}
 use Rattle.std.specs.Prelude.{int_le, if◌then◌else◌}
-use Rattle.std.specs.Option.{ok_or}
-use Rattle.text_words.specs.Numbers.{signed_of}
-use Rattle.decimals.specs.Values.{whole_of}
+use Rattle.decimals.specs.Values.{grid_of, whole_of}
 use Rattle.decimals.specs.declared.fault.NumberFault.{NumberFault}
 use Rattle.decimals.specs.declared.fault.NumberFault.TheVariants as number
-use Rattle.query_script.specs.declared.limits.TheConstants.{COORDINATE_DIGITS, REACH}
+use Rattle.query_script.specs.declared.limits.TheConstants.{REACH}
 use Rattle.query_script.specs.declared.keywords.Keyword.{Keyword}
 use Rattle.query_script.specs.declared.keywords.Keyword.TheVariants as keyword
 use Rattle.query_script.specs.declared.faults.LineFault.{LineFault}
 use Rattle.query_script.specs.declared.faults.LineFault.TheVariants.{WrongCount, NotANumber, OutOfRange, NoSuchNode}
-use Rattle.query_script.specs.Asks.{onward, within_reach, units_of, coordinate_of, number_or_fault, number_of, first_of, corner_of, fields_ask, count_of, counted_ask}
+use Rattle.query_script.specs.Asks.{onward, within_reach, steps_of, coordinate_of, number_or_fault, number_of, first_of, corner_of, fields_ask, count_of, counted_ask}
 
 -- the result is no missing node
 abbrev pub IsKnown : {A : Type 0} → Result A LineFault → Type 0
@@ -30,10 +28,11 @@ known_choice
 known_choice true p q first second = first
 known_choice false p q first second = second
 
--- a count of units, if there is one
-known_units : (n : Option ℤ) → IsKnown (ok_or n NotANumber)
-known_units None = λ e. cc
-known_units (Some n) = λ e. cc
+-- a number
+known_number : {A : Type 0} (r : Result A NumberFault) → IsKnown (number_or_fault r)
+known_number (Ok n) = λ e. cc
+known_number (Err number.NotANumber) = λ e. cc
+known_number (Err number.TooLong) = λ e. cc
 
 -- a count of grid steps
 known_reach : (steps : ℤ) → IsKnown (within_reach steps)
@@ -42,15 +41,9 @@ known_reach steps =
 
 -- a coordinate
 known_coordinate : (unit : ℕ) (word : List ℕ) → IsKnown (coordinate_of unit word)
+unfolding steps_of
 known_coordinate unit word =
-    known_onward (units_of word) (λ units. within_reach (units *ℤ pos unit))
-    (known_units (signed_of COORDINATE_DIGITS word)) (λ units. known_reach (units *ℤ pos unit))
-
--- a number
-known_number : (r : Result ℕ NumberFault) → IsKnown (number_or_fault r)
-known_number (Ok n) = λ e. cc
-known_number (Err number.NotANumber) = λ e. cc
-known_number (Err number.TooLong) = λ e. cc
+    known_onward (steps_of unit word) within_reach (known_number (grid_of unit word)) known_reach
 
 -- a corner
 known_corner : (unit : ℕ) (words : List (List ℕ)) → IsKnown (corner_of unit words)

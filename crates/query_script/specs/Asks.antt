@@ -1,15 +1,13 @@
 -- What a line of a script asks, or the first thing that is wrong with it.
-use Rattle.std.specs.Prelude.{ℕ, Bool, false, List, [], ◌∷◌, ◌==◌, ◌&&◌, nat_lt, length, drop, if◌then◌else◌, ℤ, pos, neg_ℤ, ◌*ℤ◌, int_le, codes, Option, None, Some, Result, Ok, Err}
-use Rattle.std.specs.Option.{ok_or}
+use Rattle.std.specs.Prelude.{ℕ, Bool, false, List, [], ◌∷◌, ◌==◌, ◌&&◌, nat_lt, length, drop, if◌then◌else◌, ℤ, neg_ℤ, int_le, codes, Option, None, Some, Result, Ok, Err}
 use Rattle.std.specs.Str.{bytes_eq}
 use Rattle.fixed_box.specs.Extent.{corner_box}
 use Rattle.fixed_box.specs.declared.shapes.Point.{Point}
 use Rattle.text_words.specs.Lines.{words_of}
-use Rattle.text_words.specs.Numbers.{signed_of}
-use Rattle.decimals.specs.Values.{whole_of}
+use Rattle.decimals.specs.Values.{grid_of, whole_of}
 use Rattle.decimals.specs.declared.fault.NumberFault.{NumberFault}
 use Rattle.decimals.specs.declared.fault.NumberFault.TheVariants as number
-use Rattle.query_script.specs.declared.limits.TheConstants.{LINE_MOST, COORDINATE_DIGITS, REACH}
+use Rattle.query_script.specs.declared.limits.TheConstants.{LINE_MOST, REACH}
 use Rattle.query_script.specs.declared.keywords.Keyword.{Keyword}
 use Rattle.query_script.specs.declared.keywords.Keyword.TheVariants as keyword
 use Rattle.query_script.specs.declared.asks.Ask.{Ask}
@@ -28,23 +26,23 @@ onward (Err fault) next = Err fault
 abbrev pub within_reach : ℤ → Result ℤ LineFault
 within_reach steps = if int_le (neg_ℤ REACH) steps && int_le steps REACH then Ok steps else Err OutOfRange
 
--- the count of units that a word writes
-abbrev pub units_of : List ℕ → Result ℤ LineFault
-units_of word = ok_or (signed_of COORDINATE_DIGITS word) NotANumber
-
--- the coordinate that a word writes, with so many grid steps to its unit
-abbrev pub coordinate_of : ℕ → List ℕ → Result ℤ LineFault
-coordinate_of unit word = onward (units_of word) (λ units. within_reach (units *ℤ pos unit))
-
--- why a word is no whole number
+-- why a word is no number
 abbrev pub fault_of : NumberFault → LineFault
 fault_of number.NotANumber = NotANumber
 fault_of number.TooLong = NumberTooLong
 
 -- the answer of a number word, with the line's fault
-abbrev pub number_or_fault : Result ℕ NumberFault → Result ℕ LineFault
+abbrev pub number_or_fault : {A : Type 0} → Result A NumberFault → Result A LineFault
 number_or_fault (Ok n) = Ok n
 number_or_fault (Err fault) = Err (fault_of fault)
+
+-- the grid steps that a decimal writes, with so many to its unit
+unfoldable pub steps_of : ℕ → List ℕ → Result ℤ LineFault
+steps_of unit word = number_or_fault (grid_of unit word)
+
+-- the coordinate that it writes
+abbrev pub coordinate_of : ℕ → List ℕ → Result ℤ LineFault
+coordinate_of unit word = onward (steps_of unit word) within_reach
 
 -- the whole number that a word writes
 abbrev pub number_of : List ℕ → Result ℕ LineFault

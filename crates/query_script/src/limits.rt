@@ -3,8 +3,5 @@
 /// The most bytes of a line, without its line feed.
 pub const LINE_MOST: usize = 1000;
 
-/// The most digits of a coordinate.
-pub const COORDINATE_DIGITS: usize = 7;
-
 /// The greatest coordinate of a queried box, in grid steps; the least is its opposite.
 pub const REACH: i64 = 2_147_483_647;

@@ -21,9 +21,9 @@ use text_words::Words;
 /// - a line without words, or whose first word begins with `#`, asks nothing;
 /// - the first word is `box`, `node` or `work`, else `UnknownWord`;
 /// - six, one or no words follow it, else `WrongCount`;
-/// - each of them from left to right: a coordinate behind `box` is an optional `-` and 1 to 7 digits, else
-///   `NotANumber`, and from -2147483647 to 2147483647 grid steps, else `OutOfRange`; a number behind `node` is digits
-///   alone, else `NotANumber`, and at most 24 from the first that is not `0` on, else `NumberTooLong`.
+/// - each of them from left to right: a coordinate behind `box` is a decimal (see `decimals::grid`) and a number behind
+///   `node` is digits alone, else `NotANumber`; either has at most 24 digits from the first that is not `0` on, else
+///   `NumberTooLong`; a coordinate is from -2147483647 to 2147483647 grid steps, else `OutOfRange`.
 ///
 /// The two corners of a `box` may stand in any order. It takes no memory.
 pub fn read_line(line: &[u8], unit: u32) -> Result<Ask, LineFault>

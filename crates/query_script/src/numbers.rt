@@ -1,12 +1,12 @@
 //! The numbers of a line, each in the next word. The words were counted before, so there is always one.
 
 ghost use Rattle.std.specs.Prelude.{◌≡◌, drop};
-ghost use Rattle.query_script.specs.Asks.{within_reach, coordinate_of, fault_of, number_of, first_of};
+ghost use Rattle.query_script.specs.Asks.{within_reach, coordinate_of, steps_of, fault_of, number_of, first_of};
 
 use crate::faults::LineFault;
-use crate::limits::{COORDINATE_DIGITS, REACH};
-use decimals::{NumberFault, whole};
-use text_words::{Words, grid_steps, signed_number};
+use crate::limits::REACH;
+use decimals::{NumberFault, grid, whole};
+use text_words::Words;
 
 /// The next word as a coordinate, in grid steps.
 pub fn coordinate(words: &mut Words, unit: u32) -> Result<i32, LineFault>
@@ -20,8 +20,15 @@ pub fn coordinate(words: &mut Words, unit: u32) -> Result<i32, LineFault>
 fn coordinate_of(word: &[u8], unit: u32) -> Result<i32, LineFault>
     ensures { result ≡ coordinate_of unit word.now }
 {
-    let units = signed_number(word, COORDINATE_DIGITS).ok_or(LineFault::NotANumber)?;
-    within_reach(grid_steps(units, unit))
+    let steps = steps_of(word, unit)?;
+    within_reach(steps)
+}
+
+#[tactic(auto, unfolding(crate::specs::Asks::steps_of))]
+fn steps_of(word: &[u8], unit: u32) -> Result<i64, LineFault>
+    ensures { result ≡ steps_of unit word.now }
+{
+    grid(word, unit).map_err(fault_of)
 }
 
 fn within_reach(steps: i64) -> Result<i32, LineFault>

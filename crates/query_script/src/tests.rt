@@ -19,7 +19,7 @@ fn box_between(lo: Point, hi: Point) -> Ask {
 
 #[test]
 fn the_first_thing_wrong_from_left_to_right_is_the_fault(rt: HostRuntime) {
-    let rows: [(&str, u32, LineFault); 20] = [
+    let rows: [(&str, u32, LineFault); 23] = [
         ("frob 1", 1, LineFault::UnknownWord),
         ("frob a", 1, LineFault::UnknownWord),
         ("boxes 0 0 0 0 0 0", 1, LineFault::UnknownWord),
@@ -31,12 +31,27 @@ fn the_first_thing_wrong_from_left_to_right_is_the_fault(rt: HostRuntime) {
         ("node 1 2", 1, LineFault::WrongCount),
         ("work #", 1, LineFault::WrongCount),
         ("box a 0 0 1 1 1", 1, LineFault::NotANumber),
-        ("box +1 0 0 0 0 0", 1, LineFault::NotANumber),
-        ("box 0 0 0 0 0 0.5", 1, LineFault::NotANumber),
-        ("box 2147483648 0 0 0 0 0", 1, LineFault::NotANumber),
-        ("box 9999999 0 0 0 0 0", 65536, LineFault::OutOfRange),
+        ("box . 0 0 0 0 0", 1, LineFault::NotANumber),
+        ("box 0 0 0 0 0 1e", 1, LineFault::NotANumber),
+        ("box 2147483648 0 0 0 0 0", 1, LineFault::OutOfRange),
+        ("box 0 0 0 0 0 -2147483647.50001", 1, LineFault::OutOfRange),
+        (
+            "box 0 0 1e99999999999999999999 0 0 0",
+            1,
+            LineFault::OutOfRange,
+        ),
+        (
+            "box 0 1234567890123456789012345 0 0 0 0",
+            1,
+            LineFault::NumberTooLong,
+        ),
         ("box 0 0 0 0 0 -32768", 65536, LineFault::OutOfRange),
         ("box 9999999 a 0 0 0 0", 65536, LineFault::OutOfRange),
+        (
+            "box 1234567890123456789012345 a 0 0 0 0",
+            1,
+            LineFault::NumberTooLong,
+        ),
         ("box a 9999999 0 0 0 0", 65536, LineFault::NotANumber),
         ("node -1", 1, LineFault::NotANumber),
         (

@@ -91,7 +91,7 @@ fn comes_to<R: Threads + Sync + Abort + AllocGlobal>(
 
 #[test]
 fn worked_scripts_are_answered_byte_for_byte(rt: HostRuntime) -> Result<(), Fail> {
-    let rows: [(&str, &[u8], &[u8], Status, &[u8]); 16] = [
+    let rows: [(&str, &[u8], &[u8], Status, &[u8]); 17] = [
         (
             "boxes touch where triangles do not",
             TRIANGLE,
@@ -143,6 +143,13 @@ fn worked_scripts_are_answered_byte_for_byte(rt: HostRuntime) -> Result<(), Fail
             b"line 1: unknown word\noverlaps 0\n",
         ),
         (
+            "corners are decimals, rounded to the nearest step, halves upward",
+            TRIANGLE,
+            b"box 4.0078125 0 0 5 1 1\nbox 4.0078124 0 0 5 1 1\n",
+            Status::Done,
+            b"overlaps 0\noverlaps 1: 1\n",
+        ),
+        (
             "corners in any order",
             TRIANGLE,
             b"box 9 9 0 4 4 0\n",
@@ -173,9 +180,9 @@ fn worked_scripts_are_answered_byte_for_byte(rt: HostRuntime) -> Result<(), Fail
         (
             "each reason to refuse a line",
             TRIANGLE,
-            b"frob 1\nbox 1 2 3\nbox a 0 0 1 1 1\n# node\nnode 0\nnode -1\nnode 1234567890123456789012345\nwork 1\n",
+            b"frob 1\nbox 1 2 3\nbox a 0 0 1 1 1\n# node\nbox 2147483648 0 0 0 0 0\nnode 0\nnode -1\nnode 1234567890123456789012345\nwork 1\n",
             Status::LinesRefused,
-            b"line 1: unknown word\nline 2: wrong count of words\nline 3: not a number\nline 5: no such node\nline 6: not a number\nline 7: number too long\nline 8: wrong count of words\n",
+            b"line 1: unknown word\nline 2: wrong count of words\nline 3: not a number\nline 5: out of range\nline 6: no such node\nline 7: not a number\nline 8: number too long\nline 9: wrong count of words\n",
         ),
         (
             "a refused line leaves the work as it is",
