@@ -2,28 +2,38 @@
 use Rattle.std.proofs.Common.{◌≡◌, [], ◌∷◌, ◌++◌, refl, Ok, Err, pos, negsuc}
 use Rattle.std.specs.Prelude.{codes}
 use Rattle.obj_text.specs.Texts.{mesh_of}
-use Rattle.obj_text.specs.declared.fault.Why.TheVariants.{FormNotRead}
+use Rattle.obj_text.specs.declared.fault.Why.TheVariants.{NoSuchVertex, BadReference, TooFewWords}
 
--- a triangle at 64 grid steps to the unit; a comment and a blank line are passed over
+-- a triangle at 64 grid steps to the unit, in a named group; a line that goes on, a comment and a blank line
 four_lines
     : mesh_of 64
-    (codes "f 1 2 3" ++ 10 ∷ codes "v 0 0 0 # corner" ++ 10 ∷ 13 ∷ 10 ∷ codes "v 4 0 0" ++ 10 ∷ codes "v 0 -4 0")
+    (codes "f 1 -1 3" ++ 10 ∷ codes "v 0 0 0 # corner" ++ 10 ∷ 13 ∷ 10 ∷ codes "g b" ++ 10 ∷ codes "v 4 \\" ++ 13 ∷ 10
+    ∷ codes "0 0" ++ 10 ∷ codes "v 0 -.5 0")
+    ≡ Err (record { line = 1; why = NoSuchVertex })
+four_lines = refl
+
+joined_and_grouped
+    : mesh_of 64
+    (codes "v 0 0 0 # corner" ++ 10 ∷ 13 ∷ 10 ∷ codes "g b" ++ 10 ∷ codes "f 1 -1 3 2" ++ 10 ∷ codes "v 4 \\" ++ 13 ∷ 10
+    ∷ codes "0 0" ++ 10 ∷ codes "o" ++ 10 ∷ codes "f 1/ 2//7 3" ++ 10 ∷ codes "v 0 -.5 0")
     ≡ Ok (record {
       points =
           record { x = pos 0; y = pos 0; z = pos 0 }
           ∷ record { x = pos 256; y = pos 0; z = pos 0 }
-          ∷ record { x = pos 0; y = negsuc 255; z = pos 0 }
+          ∷ record { x = pos 0; y = negsuc 31; z = pos 0 }
           ∷ [];
-      faces = record { a = 0; b = 1; c = 2 } ∷ [];
+      faces = record { a = 0; b = 0; c = 2 } ∷ record { a = 0; b = 2; c = 1 } ∷ record { a = 0; b = 1; c = 2 } ∷ [];
+      names = codes "b" ∷ codes "default" ∷ [];
+      group_of = 0 ∷ 0 ∷ 1 ∷ [];
     })
-four_lines = refl
+joined_and_grouped = refl
 
--- a line of another form
-other_form : mesh_of 1 (codes "v 0 0 0" ++ 10 ∷ codes "vt 0 0" ++ 10 ∷ codes "f 1 1 9")
-    ≡ Err (record { line = 2; why = FormNotRead })
-other_form = refl
+-- the first fault of the first faulty line, which has the number of its first part
+first_fault
+    : mesh_of 1 (codes "v 0 0 0" ++ 10 ∷ codes "f 1 \\" ++ 10 ∷ codes "x 9" ++ 10 ∷ codes "v 1")
+    ≡ Err (record { line = 2; why = BadReference })
+first_fault = refl
 
--- a name past the last vertex, of which `v#` counts as one
-past_the_last : mesh_of 1 (codes "v 0 0 0" ++ 10 ∷ codes "f 1 2 2" ++ 10 ∷ codes "v#")
-    ≡ Err (record { line = 3; why = FormNotRead })
-past_the_last = refl
+-- a comment ends a line, whatever its last byte
+comment_ends_the_line : mesh_of 1 (codes "v 0 0 #\\" ++ 10 ∷ codes "0") ≡ Err (record { line = 1; why = TooFewWords })
+comment_ends_the_line = refl

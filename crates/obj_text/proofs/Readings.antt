@@ -1,174 +1,221 @@
 -- What is known of a text's mesh when its lines are read up to some line.
-use Rattle.std.proofs.Common.{◌≡◌, ℕ, ◌+◌, ◌≤◌, true, false, List, [], ◌∷◌, ◌++◌, length, cond, refl, sym, ap, subst, ◌∙◌, append_assoc, append-nil, length-append, arith, Ok, Err, Option, None, Some}
-use borrow.Author.Tests.{ltb-true}
-use Rattle.std.specs.List.{All}
+use Rattle.std.proofs.Common.{◌≡◌, ℕ, ◌+◌, ◌-◌, ◌≤◌, List, [], ◌∷◌, ◌++◌, length, cond, refl, sym, ap, subst, ◌∙◌, append_assoc, append-nil, length-append, arith, Ok, Err, Result}
+use Rattle.std.specs.Prelude.{codes, replicate}
+use Rattle.std.specs.List.{All, position_or_len}
+use Rattle.std.specs.Str.{bytes_eq}
+use Rattle.std.proofs.lemmas.List.{length-replicate}
 use Rattle.std.proofs.lemmas.List.Elements.{All-append, All-nil}
 use Rattle.std.proofs.lemmas.List.Sums.{sum_by-cons}
 use Rattle.fixed_box.specs.World.{InWorld}
 use Rattle.fixed_box.specs.declared.shapes.Point.{Point}
-use Rattle.text_words.specs.Lines.{lines_of}
-use Rattle.obj_text.specs.Meshes.{IsMesh, IsFaceOf}
-use Rattle.obj_text.specs.Rows.{row_of, is_vertex, points_of, faces_of, has_room}
-use Rattle.obj_text.proofs.Forms.{row_is}
-use Rattle.obj_text.specs.Texts.{row_words, vertices_of, rows_of, points_in, faces_in, first_faulty, mesh_in, mesh_of, unless_faulty}
+use Rattle.text_words.specs.Joins.{JoinedLine, joined_lines_of}
+use Rattle.obj_text.specs.Meshes.{MeshLists, IsMesh, IsFaceOf}
+use Rattle.obj_text.specs.Groups.{first_seen, places_in}
+use Rattle.obj_text.specs.Rows.{Given, given_of, is_vertex, points_of, faces_of, name_after}
+use Rattle.obj_text.specs.Steps.{IsAdded}
+use Rattle.obj_text.specs.Texts.{vertices_of, readings, readings_of, points_in, faces_in, names_in, first_faulty, fault_or, mesh_of_lines, mesh_of, unless_faulty, FaultyLine, faces_read, points_read, name_read}
 use Rattle.obj_text.specs.declared.face.Face.{Face}
-use Rattle.obj_text.specs.declared.row.Row.{Row}
-use Rattle.obj_text.specs.declared.row.Row.TheVariants.{Nothing, Vertex, Triangle}
-use Rattle.obj_text.specs.declared.fault.Why.TheVariants.{FormNotRead}
+use Rattle.obj_text.specs.declared.fault.Why.{Why}
 use Rattle.obj_text.specs.declared.limits.TheConstants.{MOST_POINTS, MOST_FACES}
+use Rattle.obj_text.proofs.Givens.{given_is}
+use Rattle.obj_text.proofs.Grouping.{IsGrouped, no_face_grouped}
+use Rattle.obj_text.proofs.LineGroups.{groups_after, group_of_after, grouped_given, length-after}
 
--- the lines before `left` are read, `number` of them, and gave these points and faces
-pub record IsReadUpTo (unit : ℕ) (text : List ℕ) (left : List (List ℕ)) (number : ℕ) (points : List Point)
-    (faces : List Face) : Type 0 where
-  pub fault : first_faulty 1 0 0 (rows_of unit (vertices_of (lines_of text)) (lines_of text))
-      ≡ first_faulty (number + 1) (length points) (length faces) (rows_of unit (vertices_of (lines_of text)) left)
-  pub points_are : points_in (rows_of unit (vertices_of (lines_of text)) (lines_of text))
-      ≡ points ++ points_in (rows_of unit (vertices_of (lines_of text)) left)
-  pub faces_are : faces_in (rows_of unit (vertices_of (lines_of text)) (lines_of text))
-      ≡ faces ++ faces_in (rows_of unit (vertices_of (lines_of text)) left)
-  pub lines : number + length left ≡ length (lines_of text)
-  pub vertices : length points + vertices_of left ≡ vertices_of (lines_of text)
+-- how many `v` lines the text has
+abbrev pub all_vertices : List ℕ → ℕ
+all_vertices text = vertices_of (joined_lines_of text)
+
+-- the lines before `left` are read, and gave these points and faces, the current name, and these groups
+pub record IsReadUpTo (unit : ℕ) (text : List ℕ) (left : List JoinedLine) (points : List Point) (faces : List Face)
+    (name : List ℕ) (groups : List (List ℕ)) (group_of : List ℕ) : Type 0 where
+  pub fault : first_faulty (readings_of unit text)
+      ≡ first_faulty (readings unit (all_vertices text) (length points) (length faces) left)
+  pub points_are : points_in (readings_of unit text)
+      ≡ points ++ points_in (readings unit (all_vertices text) (length points) (length faces) left)
+  pub faces_are : faces_in (readings_of unit text)
+      ≡ faces ++ faces_in (readings unit (all_vertices text) (length points) (length faces) left)
+  pub names : List (List ℕ)
+  pub names_are : names_in (codes "default") (readings_of unit text)
+      ≡ names ++ names_in name (readings unit (all_vertices text) (length points) (length faces) left)
+  pub one_name : length names ≡ length faces
+  pub one_group : length group_of ≡ length faces
+  pub grouped : IsGrouped names groups group_of
+  pub vertices : length points + vertices_of left ≡ all_vertices text
   pub in_world : All InWorld points
-  pub named : All (IsFaceOf (vertices_of (lines_of text))) faces
+  pub named : All (IsFaceOf (all_vertices text)) faces
   pub few_points : length points ≤ MOST_POINTS
   pub few_faces : length faces ≤ MOST_FACES
 
 -- before the first line
-pub nothing_read : (unit : ℕ) (text : List ℕ) → IsReadUpTo unit text (lines_of text) 0 [] []
+pub nothing_read : (unit : ℕ) (text : List ℕ)
+    → IsReadUpTo unit text (joined_lines_of text) [] [] (codes "default") [] []
 nothing_read unit text = record {
   fault = refl;
   points_are = refl;
   faces_are = refl;
-  lines = omega arith;
+  names = [];
+  names_are = refl;
+  one_name = refl;
+  one_group = refl;
+  grouped = no_face_grouped;
   vertices = omega arith;
   in_world = All-nil InWorld;
-  named = All-nil (IsFaceOf (vertices_of (lines_of text)));
+  named = All-nil (IsFaceOf (all_vertices text));
   few_points = omega arith;
   few_faces = omega arith;
 }
 
--- the next line is a row, and there is room for it
-pub record IsNextRow (unit : ℕ) (text : List ℕ) (line : List ℕ) (points : List Point) (faces : List Face) (row : Row)
-    : Type 0 where
-  pub read : row_of unit (vertices_of (lines_of text)) (row_words line) ≡ Some row
-  pub room : has_room (length points) (length faces) row ≡ true
-
-room_for_points : (points faces : ℕ) (row : Row) → has_room points faces row ≡ true → points ≤ MOST_POINTS
-    → points + length (points_of row) ≤ MOST_POINTS
-room_for_points points faces Nothing room few = omega (arith, few)
-room_for_points points faces (Vertex p) room few = omega (arith, ltb-true, room)
-room_for_points points faces (Triangle f) room few = omega (arith, few)
-
-room_for_faces : (points faces : ℕ) (row : Row) → has_room points faces row ≡ true → faces ≤ MOST_FACES
-    → faces + length (faces_of row) ≤ MOST_FACES
-room_for_faces points faces Nothing room few = omega (arith, few)
-room_for_faces points faces (Vertex p) room few = omega (arith, few)
-room_for_faces points faces (Triangle f) room few = omega (arith, ltb-true, room)
-
-fault_after : (number : ℕ) (points : List Point) (faces : List Face) (row : Row) (rows : List (Option Row))
-    → has_room (length points) (length faces) row ≡ true
-    → first_faulty number (length points) (length faces) (Some row ∷ rows)
-    ≡ first_faulty (number + 1) (length (points ++ points_of row)) (length (faces ++ faces_of row)) rows
-fault_after number points faces row rows room =
-    let many = length points + length (points_of row) in
-    ap (λ k. cond k (first_faulty (number + 1) many (length faces + length (faces_of row)) rows) (Some number)) room
-    ∙ ap (λ k. first_faulty (number + 1) k (length faces + length (faces_of row)) rows)
-    (sym (length-append points (points_of row)))
-    ∙ ap (λ k. first_faulty (number + 1) (length (points ++ points_of row)) k rows)
-    (sym (length-append faces (faces_of row)))
-
--- what one row more gives
-pub row_read
-    : (unit : ℕ) (text line : List ℕ) (left : List (List ℕ)) (number : ℕ) (points : List Point) (faces : List Face)
-    (row : Row)
-    → IsReadUpTo unit text (line ∷ left) number points faces → IsNextRow unit text line points faces row
-    → IsReadUpTo unit text left (number + 1) (points ++ points_of row) (faces ++ faces_of row)
-row_read unit text line left number points faces row r n =
-    let vertices = vertices_of (lines_of text) in
-    let rows = rows_of unit vertices left in
-    let is = row_is unit vertices (row_words line) row n.read in
-    let one : vertices_of (line ∷ left) ≡ cond (is_vertex (row_words line)) 1 0 + vertices_of left =
-    sum_by-cons (λ k. cond (is_vertex (row_words k)) 1 0) line left in
+-- what a line leads to that gives this
+given_read : (unit : ℕ) (text : List ℕ) (line : JoinedLine) (left : List JoinedLine) (points : List Point)
+    (faces : List Face) (name : List ℕ) (groups : List (List ℕ)) (group_of : List ℕ) (given : Given)
+    → IsReadUpTo unit text (line ∷ left) points faces name groups group_of
+    → given_of unit (all_vertices text) (length points) (length faces) line.words ≡ Ok given
+    → IsReadUpTo unit text left (points ++ points_of given) (faces ++ faces_of given) (name_after name given)
+    (groups_after groups group_of (name_after name given) (length (faces ++ faces_of given)))
+    (group_of_after groups group_of (name_after name given) (length (faces ++ faces_of given)))
+given_read unit text line left points faces name groups group_of given r e =
+    let v = all_vertices text in
+    let b = length points in
+    let t = length faces in
+    let next = name_after name given in
+    let one = cond (is_vertex line.words) 1 0 in
+    let within : b ≤ v = omega (arith, r.vertices) in
+    let is = given_is unit v b t line.words given within r.few_points r.few_faces e in
+    let later = readings unit v (b + one) (t + length (faces_read (given_of unit v b t line.words))) left in
+    let vertices_now : b + one ≡ length (points ++ points_of given) =
+    omega (arith, is.0, length-append points (points_of given)) in
+    let faces_now : t + length (faces_read (given_of unit v b t line.words)) ≡ length (faces ++ faces_of given) =
+    ap (λ o. t + length (faces_read o)) e ∙ sym (length-append faces (faces_of given)) in
+    let now = readings unit v (length (points ++ points_of given)) (length (faces ++ faces_of given)) left in
+    let same : later ≡ now =
+    ap (λ k. readings unit v k (t + length (faces_read (given_of unit v b t line.words))) left) vertices_now
+    ∙ ap (λ k. readings unit v (length (points ++ points_of given)) k left) faces_now in
+    let count : vertices_of (line ∷ left) ≡ one + vertices_of left =
+    sum_by-cons (λ k. cond (is_vertex k.words) 1 0) line left in
+    let new_names = replicate (length (faces_of given)) name in
+    let grown : length (faces ++ faces_of given) ≡ length group_of + length (faces_of given) =
+    omega (arith, r.one_group, length-append faces (faces_of given)) in
     record {
-      fault = r.fault ∙ ap (λ o. first_faulty (number + 1) (length points) (length faces) (o ∷ rows)) n.read
-          ∙ fault_after (number + 1) points faces row rows n.room;
-      points_are = r.points_are ∙ ap (λ o. points ++ points_in (o ∷ rows)) n.read
-          ∙ sym (append_assoc points (points_of row) (points_in rows));
-      faces_are = r.faces_are ∙ ap (λ o. faces ++ faces_in (o ∷ rows)) n.read
-          ∙ sym (append_assoc faces (faces_of row) (faces_in rows));
-      lines = omega (arith, r.lines);
-      vertices = omega (arith, r.vertices, one, is.0, length-append points (points_of row));
-      in_world = All-append InWorld points (points_of row) r.in_world is.1.points;
-      named = All-append (IsFaceOf vertices) faces (faces_of row) r.named is.1.faces;
-      few_points =
-          omega (
-            arith,
-            length-append points (points_of row),
-            room_for_points (length points) (length faces) row n.room r.few_points,
-          );
-      few_faces =
-          omega (
-            arith,
-            length-append faces (faces_of row),
-            room_for_faces (length points) (length faces) row n.room r.few_faces,
-          );
+      fault = r.fault ∙ ap (λ o. fault_or line.number o (first_faulty later)) e ∙ ap first_faulty same;
+      points_are = r.points_are ∙ ap (λ o. points ++ (points_read o ++ points_in later)) e
+          ∙ ap (λ k. points ++ (points_of given ++ points_in k)) same
+          ∙ sym (append_assoc points (points_of given) (points_in now));
+      faces_are = r.faces_are ∙ ap (λ o. faces ++ (faces_read o ++ faces_in later)) e
+          ∙ ap (λ k. faces ++ (faces_of given ++ faces_in k)) same
+          ∙ sym (append_assoc faces (faces_of given) (faces_in now));
+      names = r.names ++ new_names;
+      names_are = r.names_are
+          ∙ ap (λ o. r.names ++ (replicate (length (faces_read o)) name ++ names_in (name_read name o) later)) e
+          ∙ ap (λ k. r.names ++ (new_names ++ names_in next k)) same
+          ∙ sym (append_assoc r.names new_names (names_in next now));
+      one_name = omega (
+        arith,
+        r.one_name,
+        length-append r.names new_names,
+        length-replicate (length (faces_of given)) name,
+        length-append faces (faces_of given),
+      );
+      one_group = length-after groups group_of next (length (faces ++ faces_of given)) (omega (arith, grown));
+      grouped = subst (λ k. IsGrouped (r.names ++ new_names) (groups_after groups group_of next k)
+          (group_of_after groups group_of next k)) (sym grown)
+          (grouped_given given r.names groups group_of name r.grouped);
+      vertices = omega (arith, r.vertices, count, is.0, length-append points (points_of given));
+      in_world = All-append InWorld points (points_of given) r.in_world is.1.points;
+      named = All-append (IsFaceOf v) faces (faces_of given) r.named is.1.faces;
+      few_points = omega (arith, length-append points (points_of given), is.1.few_points);
+      few_faces = omega (arith, length-append faces (faces_of given), is.1.few_faces);
     }
 
-mesh_where : (rows : List (Option Row)) (points : List Point) (faces : List Face) → first_faulty 1 0 0 rows ≡ None
-    → points_in rows ≡ points → faces_in rows ≡ faces
-    → mesh_in rows ≡ Ok (record { points = points; faces = faces })
-mesh_where rows points faces none p f =
-    ap (λ o. unless_faulty o (record { points = points_in rows; faces = faces_in rows })) none
-    ∙ ap (λ k. unless_faulty None (record { points = k; faces = faces_in rows })) p
-    ∙ ap (λ k. unless_faulty None (record { points = points; faces = k })) f
+added_by : (unit : ℕ) (text : List ℕ) (line : JoinedLine) (left : List JoinedLine) (points more_points : List Point)
+    (faces more_faces : List Face) (name next : List ℕ) (groups : List (List ℕ)) (group_of : List ℕ)
+    (outcome : Result Given Why)
+    → IsReadUpTo unit text (line ∷ left) points faces name groups group_of
+    → given_of unit (all_vertices text) (length points) (length faces) line.words ≡ outcome
+    → IsAdded outcome points more_points faces more_faces name next
+    → IsReadUpTo unit text left more_points more_faces next
+    (groups_after groups group_of next (length more_faces)) (group_of_after groups group_of next (length more_faces))
+added_by unit text line left points more_points faces more_faces name next groups group_of (Err why) r e a =
+    absurd (a)
+added_by unit text line left points more_points faces more_faces name next groups group_of (Ok given) r e a =
+    let read = given_read unit text line left points faces name groups group_of given r e in
+    let so_far = λ (ps : List Point) (fs : List Face) (n : List ℕ). IsReadUpTo unit text left ps fs n
+    (groups_after groups group_of n (length fs)) (group_of_after groups group_of n (length fs)) in
+    subst (so_far more_points more_faces) (sym a.name_is)
+    (subst (λ k. so_far more_points k (name_after name given)) (sym a.faces_are)
+    (subst (λ k. so_far k (faces ++ faces_of given) (name_after name given)) (sym a.points_are) read))
 
-fault_where : (rows : List (Option Row)) (line : ℕ) → first_faulty 1 0 0 rows ≡ Some line
-    → mesh_in rows ≡ Err (record { line = line; why = FormNotRead })
-fault_where rows line some = ap (λ o. unless_faulty o (record { points = points_in rows; faces = faces_in rows })) some
+-- one line more is read
+pub line_read : (unit : ℕ) (text : List ℕ) (number : ℕ) (words : List (List ℕ)) (left all : List JoinedLine)
+    (points more_points : List Point) (faces more_faces : List Face) (name next : List ℕ) (groups : List (List ℕ))
+    (group_of : List ℕ)
+    → all ≡ record { number = number; words = words } ∷ left
+    → IsReadUpTo unit text all points faces name groups group_of
+    → IsAdded (given_of unit (all_vertices text) (length points) (length faces) words)
+    points more_points faces more_faces name next
+    → IsReadUpTo unit text left more_points more_faces next
+    (groups_after groups group_of next (length more_faces)) (group_of_after groups group_of next (length more_faces))
+line_read unit text number words left all points more_points faces more_faces name next groups group_of e r a =
+    added_by unit text (record { number = number; words = words }) left points more_points faces more_faces name next
+    groups group_of (given_of unit (all_vertices text) (length points) (length faces) words)
+    (subst (λ k. IsReadUpTo unit text k points faces name groups group_of) e r) refl a
+
+-- the refusal where the next line has a fault
+pub line_faulty : (unit : ℕ) (text : List ℕ) (line : JoinedLine) (left : List JoinedLine) (points : List Point)
+    (faces : List Face) (name : List ℕ) (groups : List (List ℕ)) (group_of : List ℕ) (why : Why)
+    → IsReadUpTo unit text (line ∷ left) points faces name groups group_of
+    → given_of unit (all_vertices text) (length points) (length faces) line.words ≡ Err why
+    → mesh_of unit text ≡ Err (record { line = line.number; why = why })
+line_faulty unit text line left points faces name groups group_of why r e =
+    let v = all_vertices text in
+    let later = readings unit v (length points + cond (is_vertex line.words) 1 0)
+    (length faces + length (faces_read (given_of unit v (length points) (length faces) line.words))) left in
+    ap (λ o. unless_faulty o (mesh_of_lines (readings_of unit text)))
+    (r.fault ∙ ap (λ o. fault_or line.number o (first_faulty later)) e)
+
+-- a mesh from its points, its faces and the names of these
+abbrev mesh_from : List Point → List Face → List (List ℕ) → Result MeshLists FaultyLine
+mesh_from points faces names = Ok (record {
+  points = points;
+  faces = faces;
+  names = first_seen names;
+  group_of = places_in (first_seen names) names;
+})
 
 -- the mesh where every line is read
-pub all_read : (unit : ℕ) (text : List ℕ) (number : ℕ) (points : List Point) (faces : List Face)
-    → IsReadUpTo unit text [] number points faces → mesh_of unit text ≡ Ok (record { points = points; faces = faces })
-all_read unit text number points faces r =
-    mesh_where (rows_of unit (vertices_of (lines_of text)) (lines_of text)) points faces
-    r.fault (r.points_are ∙ append-nil points) (r.faces_are ∙ append-nil faces)
+pub all_read : (unit : ℕ) (text : List ℕ) (points : List Point) (faces : List Face) (name : List ℕ)
+    (groups : List (List ℕ)) (group_of : List ℕ) → IsReadUpTo unit text [] points faces name groups group_of
+    → mesh_of unit text ≡ Ok (record { points = points; faces = faces; names = groups; group_of = group_of })
+all_read unit text points faces name groups group_of r =
+    let lines = readings_of unit text in
+    let names = names_in (codes "default") lines in
+    ap (λ o. unless_faulty o (mesh_of_lines lines)) r.fault
+    ∙ ap (λ k. mesh_from k (faces_in lines) names) (r.points_are ∙ append-nil points)
+    ∙ ap (λ k. mesh_from points k names) (r.faces_are ∙ append-nil faces)
+    ∙ ap (mesh_from points faces) (r.names_are ∙ append-nil r.names)
+    ∙ ap (λ k. Ok (record { points = points; faces = faces; names = k; group_of = places_in k r.names }))
+    (sym r.grouped.groups_are)
+    ∙ ap (λ k. Ok (record { points = points; faces = faces; names = groups; group_of = k })) (sym r.grouped.places)
 
 -- what was read then is a mesh
-pub read_is_mesh : (unit : ℕ) (text : List ℕ) (number : ℕ) (points : List Point) (faces : List Face)
-    → IsReadUpTo unit text [] number points faces → IsMesh (record { points = points; faces = faces })
-read_is_mesh unit text number points faces r =
-    let all : vertices_of (lines_of text) ≡ length points = omega (arith, r.vertices) in
+pub read_is_mesh : (unit : ℕ) (text : List ℕ) (points : List Point) (faces : List Face) (name : List ℕ)
+    (groups : List (List ℕ)) (group_of : List ℕ) → IsReadUpTo unit text [] points faces name groups group_of
+    → IsMesh (record { points = points; faces = faces; names = groups; group_of = group_of })
+read_is_mesh unit text points faces name groups group_of r =
+    let all : all_vertices text ≡ length points = omega (arith, r.vertices) in
     record {
       in_world = r.in_world;
       named = subst (λ n. All (IsFaceOf n) faces) all r.named;
+      grouped = r.grouped.within;
+      one_group = r.one_group;
       few_points = r.few_points;
       few_faces = r.few_faces;
     }
 
--- the refusal where the next line cannot be read
-pub not_read
-    : (unit : ℕ) (text line : List ℕ) (left : List (List ℕ)) (number : ℕ) (points : List Point) (faces : List Face)
-    → IsReadUpTo unit text (line ∷ left) number points faces
-    → row_of unit (vertices_of (lines_of text)) (row_words line) ≡ None
-    → mesh_of unit text ≡ Err (record { line = number + 1; why = FormNotRead })
-not_read unit text line left number points faces r none =
-    let vertices = vertices_of (lines_of text) in
-    fault_where (rows_of unit vertices (lines_of text)) (number + 1)
-    (r.fault ∙ ap (λ o. first_faulty (number + 1) (length points) (length faces) (o ∷ rows_of unit vertices left)) none)
-
--- the refusal where the next line is a vertex or a triangle too many
-pub too_many
-    : (unit : ℕ) (text line : List ℕ) (left : List (List ℕ)) (number : ℕ) (points : List Point) (faces : List Face)
-    (row : Row)
-    → IsReadUpTo unit text (line ∷ left) number points faces
-    → row_of unit (vertices_of (lines_of text)) (row_words line) ≡ Some row
-    → has_room (length points) (length faces) row ≡ false
-    → mesh_of unit text ≡ Err (record { line = number + 1; why = FormNotRead })
-too_many unit text line left number points faces row r some full =
-    let vertices = vertices_of (lines_of text) in
-    let rows = rows_of unit vertices left in
-    fault_where (rows_of unit vertices (lines_of text)) (number + 1)
-    (r.fault ∙ ap (λ o. first_faulty (number + 1) (length points) (length faces) (o ∷ rows)) some
-    ∙ ap (λ k. cond k
-    (first_faulty (number + 1 + 1) (length points + length (points_of row))
-    (length faces + length (faces_of row)) rows) (Some (number + 1))) full)
+-- before a line's faces are grouped, no more faces have a group than there are
+pub grouped_before : (unit : ℕ) (text : List ℕ) (left : List JoinedLine) (points : List Point) (faces : List Face)
+    (name : List ℕ) (groups : List (List ℕ)) (group_of : List ℕ)
+    → IsReadUpTo unit text left points faces name (groups_after groups group_of name (length faces))
+    (group_of_after groups group_of name (length faces)) → length group_of ≤ length faces
+grouped_before unit text left points faces name groups group_of r =
+    let place = position_or_len (bytes_eq name) (groups_after groups group_of name (length faces)) in
+    omega (arith, r.one_group, length-append group_of (replicate (length faces - length group_of) place))

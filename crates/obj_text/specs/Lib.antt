@@ -1,3 +1,5 @@
 pub mod Meshes
 pub mod Rows
+pub mod Groups
 pub mod Texts
+pub mod Steps

@@ -1,14 +1,19 @@
-//! Meshes as text: the lines `v` and `f` of Wavefront OBJ, read into points of the grid and faces over them.
+//! Meshes as text: Wavefront OBJ, read into points of the grid, faces over them, and named groups of faces.
 //!
-//! What a text's mesh is, or which of its lines cannot be read, is defined over the whole text at once.
+//! What a text's mesh is, or which of its lines has the first fault, is defined over the whole text at once.
 #![tactic(auto)]
 
+mod coordinates;
 mod face;
 mod fault;
+mod gathered;
+mod groups;
 mod limits;
+mod line_fault;
 mod mesh;
+mod name_bytes;
 mod read;
-mod row;
+mod references;
 mod rows;
 
 pub use decimals::{GREATEST, MOST_DIGITS, NumberFault, grid, whole};

@@ -1,26 +1,27 @@
 //! A whole text, read into a mesh in two passes: the first counts the vertices, which decides what faces may name,
-//! the second reads line after line and stops at the first that cannot be read.
+//! the second reads line after line and stops at the first that has a fault.
 
-ghost use Rattle.std.specs.Prelude.{◌≡◌, ◌≤◌, ◌++◌, length, IfOk, IfErr, OnOk};
-ghost use Rattle.text_words.specs.Lines.{lines_of};
-ghost use Rattle.obj_text.specs.Rows.{points_of, faces_of};
+ghost use Rattle.std.specs.Prelude.{◌≡◌, ◌≤◌, length, Ok, IfOk, IfErr};
+ghost use Rattle.text_words.specs.Joins.{joined_lines_of};
 ghost use Rattle.obj_text.specs.Texts.{mesh_of, vertices_of, IsRefusalOf};
 
-use crate::face::Face;
-use crate::fault::{MeshFault, Why};
+use crate::fault::MeshFault;
+use crate::gathered::Gathered;
+use crate::groups::group_faces;
 use crate::limits::{MOST_BYTES, MOST_POINTS};
+use crate::line_fault::LineFault;
 use crate::mesh::Mesh;
-use crate::row::Row;
-use crate::rows::{has_room, is_vertex, read_row};
-use fixed_box::{Point, UNIT_MAX};
-use std::alloc::{AllocError, Global};
-use text_words::Lines;
+use crate::rows::{is_vertex, read_line};
+use fixed_box::UNIT_MAX;
+use indexmap::IndexSet;
+use std::alloc::Global;
+use text_words::JoinedLines;
 
 /// Reads a mesh text, with `unit` grid steps to each unit of its coordinates.
 ///
-/// A line `v x y z` gives a point and a line `f a b c` a face; `specs/Rows` and the README have the two forms. Vertices
-/// count from 1 in the text, and a face may stand before those that it names. `MeshFault::Line` names the first line
-/// that cannot be read, counted from 1.
+/// Lines `v`, `f`, `g` and `o` are read, and all others passed over; `docs/OBJ.md` and `specs/Rows` have their forms.
+/// Vertices count from 1 in the text, and a face may stand before those that it names. `MeshFault::Line` names the
+/// first line that has a fault, counted from 1, and the first of its faults.
 pub fn read_mesh(alloc: Global, bytes: &[u8], unit: u32) -> Result<Mesh, MeshFault>
     requires few { length bytes.now ≤ MOST_BYTES }
     requires least_unit { 1 ≤ unit }
@@ -29,59 +30,54 @@ pub fn read_mesh(alloc: Global, bytes: &[u8], unit: u32) -> Result<Mesh, MeshFau
     ensures refusal { IfErr result (IsRefusalOf (mesh_of unit bytes.now)) }
 {
     let vertices = count_vertices(bytes);
-    let Ok(mut points) = Vec::with_capacity(alloc, MOST_POINTS.min(vertices as usize)) else {
+    let Ok(points) = Vec::with_capacity(alloc, MOST_POINTS.min(vertices as usize)) else {
         return Err(MeshFault::Memory);
     };
-    let mut faces = Vec::new(alloc);
-    let mut lines = Lines::new(bytes);
-    let mut number = 0u32;
-    while let Some(line) = lines.next() {
-        number += 1;
-        let Some(row) = read_row(line, unit, vertices) else {
-            return Err(not_read(number));
-        };
-        if !has_room(points.len(), faces.len(), &row) {
-            return Err(not_read(number));
+    let mut gathered = Gathered {
+        points,
+        faces: Vec::new(alloc),
+        name: b"default",
+    };
+    let mut groups = IndexSet::new(alloc);
+    let mut group_of = Vec::new(alloc);
+    let mut lines = JoinedLines::new(bytes);
+    while let Some(line) = lines.next_line() {
+        match read_line(&mut lines, unit, vertices, &mut gathered) {
+            Ok(()) => {}
+            Err(LineFault::Faulty(why)) => return Err(MeshFault::Line { line, why }),
+            Err(LineFault::Memory) => return Err(MeshFault::Memory),
         }
-        let Ok(()) = add(&mut points, &mut faces, row) else {
+        let Ok(()) = group_faces(
+            alloc,
+            &mut groups,
+            &mut group_of,
+            gathered.name,
+            gathered.faces.len(),
+        ) else {
             return Err(MeshFault::Memory);
         };
     }
-    Ok(Mesh { points, faces })
-}
-
-fn not_read(line: u32) -> MeshFault
-    ensures { result ≡ MeshFault.Line line Why.FormNotRead }
-{
-    MeshFault::Line {
-        line,
-        why: Why::FormNotRead,
-    }
+    let Gathered { points, faces, .. } = gathered;
+    Ok(Mesh {
+        points,
+        faces,
+        group_of,
+        groups,
+    })
 }
 
 /// How many lines begin with the word `v`.
 fn count_vertices(bytes: &[u8]) -> u32
     requires { length bytes.now ≤ MOST_BYTES }
-    ensures { result ≡ vertices_of (lines_of bytes.now) }
+    ensures vertices { result ≡ vertices_of (joined_lines_of bytes.now) }
+    ensures few { result ≤ MOST_BYTES }
 {
-    let mut lines = Lines::new(bytes);
+    let mut lines = JoinedLines::new(bytes);
     let mut count = 0;
-    while let Some(line) = lines.next() {
-        if is_vertex(line) {
+    while let Some(_) = lines.next_line() {
+        if is_vertex(&mut lines) {
             count += 1;
         }
     }
     count
-}
-
-fn add(points: &mut Vec<Point>, faces: &mut Vec<Face>, row: Row) -> Result<(), AllocError>
-    ensures points { OnOk result (points.new.items ≡ points.old.items ++ points_of row) }
-    ensures faces { OnOk result (faces.new.items ≡ faces.old.items ++ faces_of row) }
-{
-    match row {
-        Row::Nothing => {}
-        Row::Vertex(point) => points.push(point)?,
-        Row::Triangle(face) => faces.push(face)?,
-    }
-    Ok(())
 }

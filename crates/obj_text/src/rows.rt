@@ -1,127 +1,209 @@
-//! One line of a mesh text, read. A line's form is seen from its words alone; what it may name depends on how many
-//! vertices the whole text has, so a face may stand before its vertices.
+//! One line of a mesh text, read. What it may name depends on how many vertices the whole text has, so a face may stand
+//! before its vertices.
 
-ghost use Rattle.std.specs.Prelude.{◌≡◌, ◌≤◌, ◌∷◌, [], MatchOption};
-ghost use Rattle.obj_text.specs.Rows.{in_world, coordinate_of, position_of, three_of, point_of, face_of, row_of, vertex_of, triangle_of, is_vertex, has_room};
-ghost use Rattle.obj_text.specs.Texts.{row_words};
+ghost use Rattle.std.specs.Prelude.{◌≡◌, ◌<◌, ◌≤◌, ◌∷◌, ◌++◌, [], length, MatchOption, MatchResult, OnOk, IfErr, IfOk, Ok, false};
+ghost use Rattle.obj_text.specs.Rows.{given_of, vertex_of, triangles_of, is_vertex, name_of, position_of};
+ghost use Rattle.obj_text.specs.Rows.{Vertex};
+ghost use Rattle.obj_text.specs.Steps.{IsAdded, IsLineFault, IsCorner, extended, fan_left};
 
+use crate::coordinates::point;
 use crate::face::Face;
-use crate::limits::{COORDINATE_DIGITS, MOST_FACES, MOST_POINTS, REFERENCE_DIGITS};
-use crate::row::Row;
-use fixed_box::{HALF, Point, UNIT_MAX};
-use text_words::{Words, grid_steps, number, signed_number, without_comment};
+use crate::fault::Why;
+use crate::gathered::Gathered;
+use crate::limits::{GREATEST_NUMBER, MOST_FACES, MOST_POINTS};
+use crate::line_fault::LineFault;
+use crate::references::position;
+use fixed_box::Point;
+use text_words::JoinedLines;
 
-/// Reads a line, of a text with so many vertices.
-pub fn read_row(line: &[u8], unit: u32, vertices: u32) -> Option<Row>
-    requires { unit ≤ UNIT_MAX }
-    ensures { result ≡ row_of unit vertices (row_words line.now) }
+/// Reads the line at hand, of a text with so many vertices, behind what was gathered.
+pub fn read_line<'a>(
+    line: &mut JoinedLines<'a>,
+    unit: u32,
+    vertices: u32,
+    gathered: &mut Gathered<'a>,
+) -> Result<(), LineFault>
+    requires vertices { vertices < GREATEST_NUMBER }
+    requires points { length gathered.now.points.items ≤ MOST_POINTS }
+    requires faces { length gathered.now.faces.items ≤ MOST_FACES }
+    ensures added { OnOk result (IsAdded
+        (given_of unit vertices (length gathered.old.points.items) (length gathered.old.faces.items) line.old.words)
+        gathered.old.points.items gathered.new.points.items gathered.old.faces.items gathered.new.faces.items
+        gathered.old.name.now gathered.new.name.now) }
+    ensures fault { IfErr result (IsLineFault
+        (given_of unit vertices (length gathered.old.points.items) (length gathered.old.faces.items) line.old.words)) }
+    ensures later { line.new.later ≡ line.old.later }
 {
-    let mut words = Words::new(without_comment(line));
-    let Some(first) = words.next() else {
-        return Some(Row::Nothing);
+    let Some(keyword) = line.next_word() else {
+        return Ok(());
     };
-    if first == b"v".as_slice() {
-        return vertex(&mut words, unit);
+    let before = gathered.points.len() as u32;
+    if keyword == b"v".as_slice() {
+        let point = vertex(line, unit, before)?;
+        return add_point(&mut gathered.points, point);
     }
-    if first == b"f".as_slice() {
-        return triangle(&mut words, vertices);
+    if keyword == b"f".as_slice() {
+        return triangles(line, vertices, before, &mut gathered.faces);
     }
-    None
+    if keyword == b"g".as_slice() || keyword == b"o".as_slice() {
+        gathered.name = name(line);
+    }
+    Ok(())
 }
 
-/// Whether a line's first word is `v`.
-pub fn is_vertex(line: &[u8]) -> bool
-    ensures { result ≡ is_vertex (row_words line.now) }
+/// Whether the line at hand begins with the word `v`.
+pub fn is_vertex(line: &mut JoinedLines) -> bool
+    ensures vertex { result ≡ is_vertex line.old.words }
+    ensures later { line.new.later ≡ line.old.later }
 {
-    match Words::new(without_comment(line)).next() {
+    match line.next_word() {
         Some(word) => word == b"v".as_slice(),
         None => false,
     }
 }
 
-/// Whether a row is within the limits behind so many points and faces.
-pub fn has_room(points: usize, faces: usize, row: &Row) -> bool
-    ensures { result ≡ has_room points faces row.now }
+/// The name behind the word `g` or `o`.
+fn name<'a>(line: &mut JoinedLines<'a>) -> &'a [u8]
+    ensures name { result.now ≡ name_of line.old.words }
+    ensures later { line.new.later ≡ line.old.later }
 {
-    match row {
-        Row::Vertex(_) => points < MOST_POINTS,
-        Row::Triangle(_) => faces < MOST_FACES,
-        Row::Nothing => true,
+    match line.next_word() {
+        Some(word) => word,
+        None => b"default",
     }
 }
 
-fn vertex(words: &mut Words, unit: u32) -> Option<Row>
-    requires { unit ≤ UNIT_MAX }
-    ensures { result ≡ vertex_of unit words.old }
+fn add_point(points: &mut Vec<Point>, point: Point) -> Result<(), LineFault>
+    ensures points { OnOk result (points.new.items ≡ points.old.items ++ point ∷ []) }
+    ensures memory { IfErr result (λ fault. fault ≡ LineFault.Memory) }
 {
-    let (x, y, z) = three(words)?;
-    let point = point(x, y, z, unit)?;
-    Some(Row::Vertex(point))
-}
-
-fn triangle(words: &mut Words, vertices: u32) -> Option<Row>
-    ensures { result ≡ triangle_of vertices words.old }
-{
-    let (a, b, c) = three(words)?;
-    let face = face(a, b, c, vertices)?;
-    Some(Row::Triangle(face))
-}
-
-/// The words that are left, where they are exactly three.
-fn three<'a>(words: &mut Words<'a>) -> Option<(&'a [u8], &'a [u8], &'a [u8])>
-    ensures { MatchOption result (three_of words.old ≡ None) (λ t. words.old ≡ t.0.now ∷ t.1.now ∷ t.2.now ∷ []) }
-{
-    let a = words.next()?;
-    let b = words.next()?;
-    let c = words.next()?;
-    if words.next().is_some() {
-        return None;
+    match points.push(point) {
+        Ok(()) => Ok(()),
+        Err(_) => Err(LineFault::Memory),
     }
+}
+
+/// The point behind the word `v`, behind so many others.
+fn vertex(line: &mut JoinedLines, unit: u32, before: u32) -> Result<Point, LineFault>
+    ensures point { IfOk result (λ point. vertex_of unit before line.old.words ≡ Ok (Vertex point)) }
+    ensures fault { IfErr result (IsLineFault (vertex_of unit before line.old.words)) }
+    ensures later { line.new.later ≡ line.old.later }
+{
+    let Some((x, y, z)) = three(line) else {
+        return Err(LineFault::Faulty(Why::TooFewWords));
+    };
+    match point(x, y, z, unit) {
+        Ok(point) => {
+            if before as usize >= MOST_POINTS {
+                return Err(LineFault::Faulty(Why::TooManyVertices));
+            }
+            Ok(point)
+        }
+        Err(why) => Err(LineFault::Faulty(why)),
+    }
+}
+
+/// The next three words, where there are as many.
+fn three<'a>(line: &mut JoinedLines<'a>) -> Option<(&'a [u8], &'a [u8], &'a [u8])>
+    ensures words { MatchOption result (length line.old.words < 3) (λ t.
+        line.old.words ≡ t.0.now ∷ t.1.now ∷ t.2.now ∷ line.new.words) }
+    ensures later { line.new.later ≡ line.old.later }
+{
+    let a = line.next_word()?;
+    let b = line.next_word()?;
+    let c = line.next_word()?;
     Some((a, b, c))
 }
 
-fn point(x: &[u8], y: &[u8], z: &[u8], unit: u32) -> Option<Point>
-    requires { unit ≤ UNIT_MAX }
-    ensures { result ≡ point_of unit x.now y.now z.now }
+/// Adds the triangles behind the word `f`, in a text with so many vertices, of which so many stand before this line.
+fn triangles(
+    line: &mut JoinedLines,
+    vertices: u32,
+    before: u32,
+    faces: &mut Vec<Face>,
+) -> Result<(), LineFault>
+    requires vertices { vertices < GREATEST_NUMBER }
+    requires before { before < GREATEST_NUMBER }
+    requires faces { length faces.now.items ≤ MOST_FACES }
+    ensures faces { OnOk result (extended faces.old.items
+        (triangles_of vertices before (length faces.old.items) line.old.words) ≡ Ok faces.new.items) }
+    ensures fault { IfErr result (IsLineFault
+        (triangles_of vertices before (length faces.old.items) line.old.words)) }
+    ensures later { line.new.later ≡ line.old.later }
 {
-    let x = coordinate(x, unit)?;
-    let y = coordinate(y, unit)?;
-    let z = coordinate(z, unit)?;
-    Some(Point { x, y, z })
+    let Some((a, b, c)) = three(line) else {
+        return Err(LineFault::Faulty(Why::TooFewWords));
+    };
+    let first = corner(a, vertices, before)?;
+    let second = corner(b, vertices, before)?;
+    fan(line, vertices, before, first, second, c, faces)
 }
 
-fn face(a: &[u8], b: &[u8], c: &[u8], vertices: u32) -> Option<Face>
-    ensures { result ≡ face_of vertices a.now b.now c.now }
+fn corner(word: &[u8], vertices: u32, before: u32) -> Result<u32, LineFault>
+    requires vertices { vertices < GREATEST_NUMBER }
+    requires before { before < GREATEST_NUMBER }
+    ensures { IsCorner (position_of vertices before word.now) result }
 {
-    let a = position(a, vertices)?;
-    let b = position(b, vertices)?;
-    let c = position(c, vertices)?;
-    Some(Face { a, b, c })
-}
-
-fn coordinate(word: &[u8], unit: u32) -> Option<i32>
-    requires { unit ≤ UNIT_MAX }
-    ensures { result ≡ coordinate_of unit word.now }
-{
-    let units = signed_number(word, COORDINATE_DIGITS)?;
-    in_world(grid_steps(units, unit))
-}
-
-fn in_world(steps: i64) -> Option<i32>
-    ensures { result ≡ in_world steps }
-{
-    if steps < -i64::from(HALF) || steps >= i64::from(HALF) {
-        return None;
+    match position(word, vertices, before) {
+        Ok(corner) => Ok(corner),
+        Err(why) => Err(LineFault::Faulty(why)),
     }
-    Some(steps as i32)
 }
 
-fn position(word: &[u8], vertices: u32) -> Option<u32>
-    ensures { result ≡ position_of vertices word.now }
+/// Adds the triangles of a fan, whose first two corners are known, at a third word and at those behind it.
+fn fan<'a>(
+    line: &mut JoinedLines<'a>,
+    vertices: u32,
+    before: u32,
+    first: u32,
+    second: u32,
+    third: &'a [u8],
+    faces: &mut Vec<Face>,
+) -> Result<(), LineFault>
+    requires vertices { vertices < GREATEST_NUMBER }
+    requires before { before < GREATEST_NUMBER }
+    requires faces { length faces.now.items ≤ MOST_FACES }
+    ensures faces { OnOk result (fan_left vertices before false faces.old.items first second
+        (third.now ∷ line.old.words) ≡ Ok faces.new.items) }
+    ensures fault { IfErr result (IsLineFault
+        (fan_left vertices before false faces.old.items first second (third.now ∷ line.old.words))) }
+    ensures later { line.new.later ≡ line.old.later }
 {
-    let number = number(word, REFERENCE_DIGITS)?;
-    if number == 0 || number > vertices {
-        return None;
+    let mut word = third;
+    let mut last = second;
+    let mut over = false;
+    loop {
+        let next = corner(word, vertices, before)?;
+        if faces.len() < MOST_FACES {
+            add_face(
+                faces,
+                Face {
+                    a: first,
+                    b: last,
+                    c: next,
+                },
+            )?;
+        } else {
+            over = true;
+        }
+        last = next;
+        let Some(more) = line.next_word() else {
+            break;
+        };
+        word = more;
     }
-    Some(number - 1)
+    if over {
+        return Err(LineFault::Faulty(Why::TooManyTriangles));
+    }
+    Ok(())
+}
+
+fn add_face(faces: &mut Vec<Face>, face: Face) -> Result<(), LineFault>
+    ensures faces { OnOk result (faces.new.items ≡ faces.old.items ++ face ∷ []) }
+    ensures memory { IfErr result (λ fault. fault ≡ LineFault.Memory) }
+{
+    match faces.push(face) {
+        Ok(()) => Ok(()),
+        Err(_) => Err(LineFault::Memory),
+    }
 }

@@ -1,4 +1,4 @@
-//! Worked texts, and each public call once.
+//! Worked texts, one for each line of the table of `docs/OBJ.md`, and each public call once.
 
 use super::*;
 use fixed_box::{Point, UNIT_MAX};
@@ -13,116 +13,204 @@ fn read_text(rt: &impl Abort, alloc: Global, text: &[u8], unit: u32) -> Result<M
     read_mesh(alloc, text, unit)
 }
 
-/// Takes what was read as a mesh, and compares its points and faces.
-fn is_mesh(
+/// What a text gives, as text: its points, then each face with its group's name; or its fault.
+fn shown(rt: &impl Abort, alloc: Global, text: &[u8], unit: u32) -> Result<String, AllocError> {
+    let mesh = match read_text(rt, alloc, text, unit) {
+        Ok(mesh) => mesh,
+        Err(fault) => return format!(in alloc; "{fault}"),
+    };
+    let mut shown = String::new(alloc);
+    for point in mesh.points() {
+        let one = format!(in alloc; "({} {} {})", point.x, point.y, point.z)?;
+        shown.push_str(one.as_str())?;
+    }
+    for (face, group) in mesh.faces().iter().zip(mesh.group_of()) {
+        let name = mesh
+            .groups()
+            .get_index(*group as usize)
+            .expect(rt, "a group");
+        let name = std::str::from_utf8(name.bytes())
+            .ok()
+            .expect(rt, "a name in UTF-8");
+        let one = format!(in alloc; " {name}[{} {} {}]", face.a, face.b, face.c)?;
+        shown.push_str(one.as_str())?;
+    }
+    Ok(shown)
+}
+
+fn all_shown(
     rt: &impl Abort,
-    read: Result<Mesh, MeshFault>,
-    points: &[(i32, i32, i32)],
-    faces: &[(u32, u32, u32)],
-    name: &str,
-) {
-    let mesh = read.expect(rt, name);
-    assert_eq!(rt; mesh.points().len(), points.len(), "points of {name}");
-    for (point, want) in mesh.points().iter().zip(points) {
-        assert_eq!(rt; (point.x, point.y, point.z), *want, "a point of {name}");
+    alloc: Global,
+    cases: &[(&[u8], u32, &str)],
+) -> Result<(), AllocError> {
+    for (at, (text, unit, want)) in cases.iter().enumerate() {
+        let shown = shown(rt, alloc, text, *unit)?;
+        assert_eq!(rt; shown.as_str(), *want, "case {at}");
     }
-    assert_eq!(rt; mesh.faces().len(), faces.len(), "faces of {name}");
-    for (face, want) in mesh.faces().iter().zip(faces) {
-        assert_eq!(rt; (face.a, face.b, face.c), *want, "a face of {name}");
-    }
-}
-
-const TRIANGLE: &[u8] = b"v 0 0 0\nv 4 0 0\nv 0 4 0\nf 1 2 3\n";
-
-#[test]
-fn a_text_gives_its_points_in_grid_steps_and_its_faces(rt: HostRuntime) {
-    let at_one = read_text(&rt, rt.alloc(), TRIANGLE, 1);
-    is_mesh(
-        &rt,
-        at_one,
-        &[(0, 0, 0), (4, 0, 0), (0, 4, 0)],
-        &[(0, 1, 2)],
-        "one step to the unit",
-    );
-    let at_sixty_four = read_text(&rt, rt.alloc(), TRIANGLE, 64);
-    is_mesh(
-        &rt,
-        at_sixty_four,
-        &[(0, 0, 0), (256, 0, 0), (0, 256, 0)],
-        &[(0, 1, 2)],
-        "64 steps to the unit",
-    );
-    let face_first = read_text(&rt, rt.alloc(), b"f 1 2 3\nv 0 0 0\nv 4 0 0\nv 0 4 0", 1);
-    is_mesh(
-        &rt,
-        face_first,
-        &[(0, 0, 0), (4, 0, 0), (0, 4, 0)],
-        &[(0, 1, 2)],
-        "the face before its vertices",
-    );
-    let text =
-        b"# level\r\n\r\n\tv\x0b-007\x0c000000 \t 131071#\r\nv 1 2 -131072 # f 9\nf 2 0000001 1\r";
-    let spaced = read_text(&rt, rt.alloc(), text, 1);
-    is_mesh(
-        &rt,
-        spaced,
-        &[(-7, 0, 131071), (1, 2, -131072)],
-        &[(1, 0, 0)],
-        "comments, blanks and leading zeros",
-    );
-    let empty = read_text(&rt, rt.alloc(), b"", 65536);
-    is_mesh(&rt, empty, &[], &[], "the empty text");
+    Ok(())
 }
 
 #[test]
-fn the_first_line_that_cannot_be_read_is_named(rt: HostRuntime) {
-    let cases: [(&[u8], u32, u32); 27] = [
-        (b"v 0 0 0\nv 4 0 0\nv 0 4 0\nf 1 2 3\nvt 0 0", 64, 5),
-        (b"v 0 0 0\nv 0 0 0\nv 0 0 0\nf 1 2 0\n", 1, 4),
-        (b"v 0 0 0\nv 0 0 0\nv 0 0 0\nf 1 2 4\n", 1, 4),
-        (b"f 1 1 1", 1, 1),
-        (b"v 1 2", 1, 1),
-        (b"v 1 2 3 4", 1, 1),
-        (b"v 1 x 2", 1, 1),
-        (b"v 1 2 3.0", 1, 1),
-        (b"v 1 2 +3", 1, 1),
-        (b"v 1 2 --3", 1, 1),
-        (b"v 1 2 -", 1, 1),
-        (b"v 1 2 0000003", 1, 1),
-        (b"v 1 2 3\\\n", 1, 1),
-        (b"v 0 0 0\nf 1 1 00000001", 1, 2),
-        (b"v 0 0 0\nf 1 1 -1", 1, 2),
-        (b"v 0 0 0\nf 1 1", 1, 2),
-        (b"v 0 0 0\nf 1 1 1 1", 1, 2),
-        (b"v 0 0 0\nf 1/1 1 1", 1, 2),
-        (b"v 0 0 131071\nv 0 131072 0", 1, 2),
-        (b"v 0 0 -131072\nv 0 0 -131073", 1, 2),
-        (b"v 2047 -2048 0\nv 2048 0 0", 64, 2),
-        (b"v 1 -2 0\nv 2 0 0", 65536, 2),
-        (b"\n\nV 0 0 0", 1, 3),
-        (b"v 0 0 0\n\0", 1, 2),
-        (b"v\xa00 0 0", 1, 1),
-        (b"f 1 1 2\nv 0 0 0\nv#1\n", 1, 3),
-        (b"o name\nv 1 x 2", 1, 1),
+fn each_form_of_line_is_read_or_passed_over(rt: HostRuntime) -> Result<(), Fail> {
+    let cases: [(&[u8], u32, &str); 24] = [
+        (b"", 65536, ""),
+        (b"# v 1 2 3\n\n \t\x0b\x0c\r\nv 1 2 3", 1, "(1 2 3)"),
+        (b"v 1 2 3#4\n", 1, "(1 2 3)"),
+        (b"v 0 1 # 2 \\\nv 4 5 6", 1, "mesh line 1: too few words"),
+        (b"v 1 \\\n2 \\\r\n 3\nv 4 5 6\\", 1, "(1 2 3)(4 5 6)"),
+        (
+            b"v 1 2 3 \\ 4\n\\\n\\\nv 1 2 \\\\\n7",
+            1,
+            "mesh line 2: not a number",
+        ),
+        (b"v 6.5 -.5 +1e2 255 128 0", 64, "(416 -32 6400)"),
+        (b"v 6.5 -0.5 0.4999", 1, "(7 0 0)"),
+        (
+            b"f 1 2 3\nv 0 0 0\nv 1 1 1\nv 2 2 2",
+            1,
+            "(0 0 0)(1 1 1)(2 2 2) default[0 1 2]",
+        ),
+        (
+            b"v 0 0 0\nv 1 0 0\nf -1 -2 -1\nv 2 0 0\n",
+            1,
+            "(0 0 0)(1 0 0)(2 0 0) default[1 0 1]",
+        ),
+        (b"v 0 0 0\nf 1/2 1//3 1/2/3", 1, "(0 0 0) default[0 0 0]"),
+        (b"v 0 0 0\nf 1/ 1// +1/-2/+3", 1, "(0 0 0) default[0 0 0]"),
+        (
+            b"v 0 0 0\nf 00000000000000000000001 1 1",
+            1,
+            "(0 0 0) default[0 0 0]",
+        ),
+        (
+            b"v 0 0 0\nv 1 0 0\nv 2 0 0\nf 1 2 3 2 1",
+            1,
+            "(0 0 0)(1 0 0)(2 0 0) default[0 1 2] default[0 2 1] default[0 1 0]",
+        ),
+        (
+            b"v 0 0 0\ng b c\nf 1 1 1\no a\nf 1 1 1 1\ng b\nf 1 1 1\ng\nf 1 1 1\ng none",
+            1,
+            "(0 0 0) b[0 0 0] a[0 0 0] a[0 0 0] b[0 0 0] default[0 0 0]",
+        ),
+        (b"v 0 0 0\ng \xc3\xa4#\nf 1 1 1", 1, "(0 0 0) \u{e4}[0 0 0]"),
+        (
+            b"vt 1\nvn \xff\x00\nV 1 2\nmtllib a b\ns off\nF 1\nv 1 2 3",
+            1,
+            "(1 2 3)",
+        ),
+        (b"g \\\nv\nv 0 0 0\nf 1 \\\n 1 1", 1, "(0 0 0) v[0 0 0]"),
+        (b"\xef\xbb\xbfv 0 0 0\nv 1 1 1", 1, "(1 1 1)"),
+        (b"\xff\xfev\0 \x001\0\n\0", 1, ""),
+        (b"v 131071 -131072 0", 1, "(131071 -131072 0)"),
+        (b"v 2047.98 0 0", 64, "(131071 0 0)"),
+        (b"v 0 0 0\rv 1 1 1\rf 1 1 1", 1, "(0 0 0)"),
+        (b"v 1e-400 0x1 0", 1, "mesh line 1: not a number"),
     ];
-    for (at, (text, unit, line)) in cases.iter().enumerate() {
-        let fault = read_text(&rt, rt.alloc(), text, *unit).err();
-        assert_eq!(rt;
-            fault,
-            Some(MeshFault::Line {
-                line: *line,
-                why: Why::FormNotRead
-            }),
-            "case {at}"
-        );
-    }
+    all_shown(&rt, rt.alloc(), &cases)?;
+    Ok(())
 }
 
-/// A line, and then another so many times.
-fn repeated(alloc: Global, first: &[u8], line: &[u8], times: u32) -> Result<Vec<u8>, AllocError> {
+#[test]
+fn the_first_fault_of_the_first_faulty_line_is_named(rt: HostRuntime) -> Result<(), Fail> {
+    let cases: [(&[u8], u32, &str); 30] = [
+        (b"v 0 0 0\nv 1 2\nv x", 64, "mesh line 2: too few words"),
+        (b"v 1 x 2", 64, "mesh line 1: not a number"),
+        (
+            b"v x 1234567890123456789012345 0",
+            1,
+            "mesh line 1: not a number",
+        ),
+        (
+            b"v 1234567890123456789012345 x 0",
+            1,
+            "mesh line 1: number too long",
+        ),
+        (b"v 0 131072 x", 1, "mesh line 1: outside the world"),
+        (b"v 2048 0 0", 64, "mesh line 1: outside the world"),
+        (b"v 0 0 -131072.6", 1, "mesh line 1: outside the world"),
+        (b"v x 1", 1, "mesh line 1: too few words"),
+        (b"v", 1, "mesh line 1: too few words"),
+        (b"f", 1, "mesh line 1: too few words"),
+        (b"v 0 0 0\nf 1 1", 1, "mesh line 2: too few words"),
+        (b"v 0 0 0\nf 9 x", 1, "mesh line 2: too few words"),
+        (b"v 0 0 0\nf 1 1 2", 1, "mesh line 2: no such vertex"),
+        (b"v 0 0 0\nf 1 1 0", 1, "mesh line 2: no such vertex"),
+        (b"v 0 0 0\nf 1 1 -0", 1, "mesh line 2: no such vertex"),
+        (
+            b"v 0 0 0\nf 1 1 1 4294967297",
+            1,
+            "mesh line 2: no such vertex",
+        ),
+        (
+            b"v 0 0 0\nf -1 -1 -2\nv 0 0 0",
+            1,
+            "mesh line 2: no such vertex",
+        ),
+        (
+            b"f -1 -2 -3\nv 0 0 0\nv 4 0 0\nv 0 4 0",
+            1,
+            "mesh line 1: no such vertex",
+        ),
+        (b"v 0 0 0\nf 1 1 1/a", 1, "mesh line 2: bad reference"),
+        (b"v 0 0 0\nf 1 1 1/1/1/", 1, "mesh line 2: bad reference"),
+        (b"v 0 0 0\nf 1 1 /1", 1, "mesh line 2: bad reference"),
+        (b"v 0 0 0\nf 1 1 1.0", 1, "mesh line 2: bad reference"),
+        (b"v 0 0 0\nf 1 1 --1", 1, "mesh line 2: bad reference"),
+        (b"v 0 0 0\nf 1 1 1/+", 1, "mesh line 2: bad reference"),
+        (b"v 0 0 0\nf 1 2 x", 1, "mesh line 2: no such vertex"),
+        (b"v 0 0 0\nf 1 x 2", 1, "mesh line 2: bad reference"),
+        (b"v 0 0 0\nf 1 1 1 1 x", 1, "mesh line 2: bad reference"),
+        (
+            b"g \\\n\\\na\nv 1 \\\n 2 \\\n x",
+            1,
+            "mesh line 4: not a number",
+        ),
+        (b"v 1 2 \\\n# 3", 1, "mesh line 1: too few words"),
+        (b"v\xa01 2 3\nv \xa01 2 3", 1, "mesh line 2: not a number"),
+    ];
+    all_shown(&rt, rt.alloc(), &cases)?;
+    Ok(())
+}
+
+/// Lines as files of other tools have them.
+const REFERENCES: &[u8] =
+    b"v 0 0 0\nv 4 0 0\nv 0 4 0\nf -1 -2 -3\nf 1/1/1 2//2 3/3\nv 4 4 0\nv 2 6 0\nf 1 2 4 5 3\n";
+
+const CARRIAGE_RETURNS: &[u8] = b"v 0 0 0\r\nv 4 0 0\r\nv 0 \\\r\n4 0\r\n# end \\\r\nf 1 2 3\r\n";
+
+const LEVEL: &[u8] = b"# level\nmtllib level.mtl\no Floor\n\
+v 0.000000 0.000000 0.000000\nv 4.000000 0.000000 0.000000\nv 4.000000 4.000000 0.000000\n\
+v 0.000000 4.000000 0.000000\nvt 0.000000 0.000000\nvn 0.0000 0.0000 1.0000\nusemtl Stone\ns off\n\
+f 1/1/1 2/1/1 3/1/1 4/1/1\no Ramp\n\
+v 4.000000 0.000000 0.000000\nv 6.500000 0.000000 1.250000\nv 6.500000 4.000000 1.250000\n\
+v 4.000000 4.000000 0.000000\nf 5//1 6//1 7//1 8//1\n";
+
+#[test]
+fn worked_meshes_are_read(rt: HostRuntime) -> Result<(), Fail> {
+    let cases: [(&[u8], u32, &str); 3] = [
+        (
+            REFERENCES,
+            1,
+            "(0 0 0)(4 0 0)(0 4 0)(4 4 0)(2 6 0) default[2 1 0] default[0 1 2] default[0 1 3] \
+default[0 3 4] default[0 4 2]",
+        ),
+        (CARRIAGE_RETURNS, 1, "(0 0 0)(4 0 0)(0 4 0) default[0 1 2]"),
+        (
+            LEVEL,
+            64,
+            "(0 0 0)(256 0 0)(256 256 0)(0 256 0)(256 0 0)(416 0 80)(416 256 80)(256 256 0) \
+Floor[0 1 2] Floor[0 2 3] Ramp[4 5 6] Ramp[4 6 7]",
+        ),
+    ];
+    all_shown(&rt, rt.alloc(), &cases)?;
+    Ok(())
+}
+
+/// A text, and then a part again and again.
+fn repeated(alloc: Global, first: &[u8], part: &[u8], times: u32) -> Result<Vec<u8>, AllocError> {
     let mut text = first.to_vec(alloc)?;
     for _ in 0..times {
-        text.extend_from_slice(line)?;
+        text.extend_from_slice(part)?;
     }
     Ok(text)
 }
@@ -138,19 +226,20 @@ fn the_line_past_a_limit_is_named(rt: HostRuntime) -> Result<(), Fail> {
         fault,
         Some(MeshFault::Line {
             line: 1_048_577,
-            why: Why::FormNotRead
+            why: Why::TooManyVertices
         })
     );
-    let full = repeated(rt.alloc(), b"v 0 0 0\n", b"f 1 1 1\n", 1_048_576)?;
+    let full = repeated(rt.alloc(), b"v 0 0 0\nf", b" 1", 1_048_578)?;
     let mesh = read_text(&rt, rt.alloc(), &full, 1)?;
     assert_eq!(rt; mesh.faces().len(), MOST_FACES);
-    let past = repeated(rt.alloc(), b"v 0 0 0\n", b"f 1 1 1\n", 1_048_577)?;
+    assert_eq!(rt; mesh.groups().len(), 1);
+    let past = repeated(rt.alloc(), b"v 0 0 0\nf", b" 1", 1_048_579)?;
     let fault = read_text(&rt, rt.alloc(), &past, 1).err();
     assert_eq!(rt;
         fault,
         Some(MeshFault::Line {
-            line: 1_048_578,
-            why: Why::FormNotRead
+            line: 2,
+            why: Why::TooManyTriangles
         })
     );
     Ok(())
@@ -158,24 +247,19 @@ fn the_line_past_a_limit_is_named(rt: HostRuntime) -> Result<(), Fail> {
 
 #[test]
 fn a_mesh_is_taken_apart(rt: HostRuntime) -> Result<(), Fail> {
-    let mesh = read_text(&rt, rt.alloc(), TRIANGLE, 2)?;
-    let (points, faces) = mesh.into_parts();
-    assert_eq!(rt; points.len(), 3);
+    let mesh = read_text(&rt, rt.alloc(), b"v 0 0 0\nv 4 0 0\no a\nf 1 2 1\n", 2)?;
+    let (points, faces, group_of, groups) = mesh.into_parts();
+    assert_eq!(rt; points.len(), 2);
     assert_eq!(rt; points[1], Point { x: 8, y: 0, z: 0 });
-    assert_eq!(rt; faces.as_slice(), [Face { a: 0, b: 1, c: 2 }].as_slice());
+    assert_eq!(rt; faces.as_slice(), [Face { a: 0, b: 1, c: 0 }].as_slice());
+    assert_eq!(rt; group_of.as_slice(), [0].as_slice());
+    let name = groups.get_index(0).ok_or("one group")?;
+    assert_eq!(rt; name.bytes(), b"a".as_slice());
     Ok(())
 }
 
 #[test]
-fn faults_print_their_line(rt: HostRuntime) -> Result<(), Fail> {
-    let fault = MeshFault::Line {
-        line: 5,
-        why: Why::FormNotRead,
-    };
-    assert_eq!(rt;
-        format!(in rt.alloc(); "{fault}")?.as_str(),
-        "mesh line 5: form not read"
-    );
+fn want_of_memory_prints_as_such(rt: HostRuntime) -> Result<(), Fail> {
     assert_eq!(rt;
         format!(in rt.alloc(); "{}", MeshFault::Memory)?.as_str(),
         "out of memory"

@@ -1,3 +1,4 @@
 pub mod Cuts
+pub mod Joining
 pub mod Spaces
 pub mod Tens

@@ -1,3 +1,5 @@
 pub mod Lines
+pub mod Joins
 pub mod Numbers
 pub mod Cuts
+pub mod Parts

@@ -39,3 +39,24 @@ fn whole_numbers_are_read(rt: HostRuntime) {
     assert_eq!(rt; signed_number(b"-", 9), None);
     assert_eq!(rt; grid_steps(-3, 65536), -196_608);
 }
+
+#[test]
+fn a_line_that_ends_with_a_backslash_goes_on_in_the_next(rt: HostRuntime) {
+    let text = b"v 1 \\\n2\\\r\n \\\n#3 \\\n\nf # 4 \\\r\n\\a \\";
+    let mut lines = JoinedLines::new(text);
+    assert_eq!(rt; lines.next_word(), None);
+    let want: [(u32, &[&[u8]]); 4] = [
+        (1, &[b"v", b"1", b"2"]),
+        (5, &[]),
+        (6, &[b"f"]),
+        (7, &[b"\\a"]),
+    ];
+    for (number, words) in want.iter() {
+        assert_eq!(rt; lines.next_line(), Some(*number));
+        for word in words.iter() {
+            assert_eq!(rt; lines.next_word(), Some(*word));
+        }
+        assert_eq!(rt; lines.next_word(), None);
+    }
+    assert_eq!(rt; lines.next_line(), None);
+}

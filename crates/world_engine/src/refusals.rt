@@ -23,6 +23,13 @@ fn why_text(why: Why) -> &'static str
     ensures { result.now ≡ why_text why }
 {
     match why {
-        Why::FormNotRead => "form not read",
+        Why::NotANumber => "not a number",
+        Why::NumberTooLong => "number too long",
+        Why::Outside => "outside the world",
+        Why::TooFewWords => "too few words",
+        Why::BadReference => "bad reference",
+        Why::NoSuchVertex => "no such vertex",
+        Why::TooManyVertices => "too many vertices",
+        Why::TooManyTriangles => "too many triangles",
     }
 }

@@ -91,7 +91,7 @@ fn comes_to<R: Threads + Sync + Abort + AllocGlobal>(
 
 #[test]
 fn worked_scripts_are_answered_byte_for_byte(rt: HostRuntime) -> Result<(), Fail> {
-    let rows: [(&str, &[u8], &[u8], Status, &[u8]); 17] = [
+    let rows: [(&str, &[u8], &[u8], Status, &[u8]); 18] = [
         (
             "boxes touch where triangles do not",
             TRIANGLE,
@@ -107,11 +107,18 @@ fn worked_scripts_are_answered_byte_for_byte(rt: HostRuntime) -> Result<(), Fail
             b"line 1: unknown word\n",
         ),
         (
-            "a line of another form in the mesh",
-            b"v 0 0 0\nv 4 0 0\nv 0 4 0\nf 1 2 3\nvt 0 0\n",
-            b"",
+            "a faulty line of the mesh",
+            b"v 0 0 0\nv 4 0 0\nv 0 4 0\nvt 0 0\nf 1 2 \\\n9\nf 1\n",
+            b"box 0 0 0 1 1 1\n",
             Status::MeshRefused,
-            b"mesh line 5: form not read\n",
+            b"mesh line 5: no such vertex\n",
+        ),
+        (
+            "a fan over four corners, of a mesh as exporters write it",
+            b"# a tool\r\no Square\nv -0.5 -.5 0.0\nv +5e-1 -0.5 0\nv 0.5 0.5 0\nv -0.5 0.5 0\nvn 0 0 1\ng wall\nf 1//1 2//1 3//1 -1//-1\n",
+            b"box 0.25 -0.25 0 0.25 -0.25 0\nbox -1 -1 0.0078125 1 1 1\n",
+            Status::Done,
+            b"overlaps 2: 1 2\noverlaps 0\n",
         ),
         (
             "a face before its vertices",

@@ -1,13 +1,13 @@
 use Rattle.std.proofs.Common.{◌≡◌, ◌≤◌, length, ◌+◌}
-use Rattle.text_words.specs.Lines.{lines_of}
+use Rattle.text_words.specs.Joins.{joined_lines_of}
 use Rattle.obj_text.specs.Texts.{vertices_of}
 use Rattle.obj_text.proofs.read.count_vertices.Given as goal
 
-abbrev pub invariant-loop-line : goal.invariant-loop-line
-invariant-loop-line l = record {
-  counted : l.count + vertices_of l.lines ≡ vertices_of (lines_of l.bytes);
-  few : l.count + length l.lines ≤ length (lines_of l.bytes);
+abbrev pub invariant-loop-lines : goal.invariant-loop-lines
+invariant-loop-lines l = record {
+  counted : l.count + vertices_of l.lines.later ≡ vertices_of (joined_lines_of l.bytes);
+  few : l.count + length l.lines.later ≤ length (joined_lines_of l.bytes);
 }
 
-abbrev pub decreases-loop-line : goal.decreases-loop-line
-decreases-loop-line l = length l.lines
+abbrev pub decreases-loop-lines : goal.decreases-loop-lines
+decreases-loop-lines l = length l.lines.later

@@ -1,21 +1,36 @@
-use Rattle.std.proofs.Common.{rules, arith, subst, ◌≡◌, ◌∷◌, ◌++◌, List, ℕ}
-use Rattle.text_words.proofs.Cuts.{length-lines_of}
-use Rattle.obj_text.proofs.Readings.{IsReadUpTo, IsNextRow, row_read}
-use Rattle.obj_text.specs.Rows.{points_of, faces_of}
+use Rattle.std.proofs.Common.{rules, length}
+use Rattle.obj_text.proofs.LineGroups.{groups_after, group_of_after}
+use Rattle.obj_text.proofs.Readings.{IsReadUpTo, line_read, grouped_before}
 use Rattle.obj_text.proofs.read.read_mesh.Goals as goal
 
-pub overflow_add-number : goal.overflow_add-number
-overflow_add-number c = omega (arith, c.loop-line.invariant.lines, length-lines_of c.args.bytes.now, c.requires.few)
+-- the line at hand is read, and its faces have a group
+read_on : (c : goal.After-len)
+    → let new = c.read_line.new.gathered in
+    IsReadUpTo c.args.unit c.args.bytes.now c.next_line.new.self.later new.points.items new.faces.items new.name.now
+    (groups_after c.loop-line.groups.keys c.loop-line.group_of.items new.name.now (length new.faces.items))
+    (group_of_after c.loop-line.groups.keys c.loop-line.group_of.items new.name.now (length new.faces.items))
+read_on c =
+    let was = c.loop-line.gathered in
+    let new = c.read_line.new.gathered in
+    line_read c.args.unit c.args.bytes.now c.in-Some.line c.next_line.new.self.words c.next_line.new.self.later
+    c.loop-line.lines.later was.points.items new.points.items was.faces.items new.faces.items was.name.now
+    new.name.now c.loop-line.groups.keys c.loop-line.group_of.items (search rules) c.loop-line.invariant (search rules)
+
+pub group_faces-requires-clause-few : goal.group_faces-requires-clause-few
+group_faces-requires-clause-few c = search (rules, (read_on c).few_faces)
+
+pub group_faces-requires-clause-grouped : goal.group_faces-requires-clause-grouped
+group_faces-requires-clause-grouped c =
+    let new = c.read_line.new.gathered in
+    search (rules, grouped_before c.args.unit c.args.bytes.now c.next_line.new.self.later new.points.items
+    new.faces.items new.name.now c.loop-line.groups.keys c.loop-line.group_of.items (read_on c))
 
 pub loop-line-preserved : goal.loop-line-preserved
 loop-line-preserved c =
-    let row = c.in-Some-read_row.row in
-    let next : c.loop-line.lines ≡ c.in-Some.line.now ∷ c.next.new.self = search rules in
-    let so_far = λ (left : List (List ℕ)).
-    IsReadUpTo c.args.unit c.args.bytes.now left c.loop-line.number c.loop-line.points.items c.loop-line.faces.items in
-    let r = subst so_far next c.loop-line.invariant in
-    let n : IsNextRow c.args.unit c.args.bytes.now c.in-Some.line.now c.loop-line.points.items c.loop-line.faces.items
-    row = record { read = search rules; room = search rules } in
-    let points : c.add.new.points.items ≡ c.loop-line.points.items ++ points_of row = search rules in
-    let faces : c.add.new.faces.items ≡ c.loop-line.faces.items ++ faces_of row = search rules in
-    rw (points, faces) (row_read _ _ _ _ _ _ _ row r n)
+    let was = c.loop-line.gathered in
+    let new = c.read_line.new.gathered in
+    let read = line_read c.args.unit c.args.bytes.now c.in-Some.line c.next_line.new.self.words
+    c.next_line.new.self.later c.loop-line.lines.later was.points.items new.points.items was.faces.items
+    new.faces.items was.name.now new.name.now c.loop-line.groups.keys c.loop-line.group_of.items
+    (search rules) c.loop-line.invariant (search rules) in
+    search (rules, read)

@@ -1,16 +1,22 @@
-use Rattle.std.proofs.Common.{Err, ap, ◌∙◌}
+use Rattle.std.proofs.Common.{Err, ap, sym, ◌∙◌}
 use Rattle.world_engine.specs.Outputs.{status_of}
 use Rattle.streams.proofs.Prompt.{prompt_cut}
 use Rattle.world_engine.specs.Desks.{desk_text, desk_after}
 use Rattle.world_engine.specs.declared.limits.TheConstants.{UNIT, SCRIPT_MOST}
 use Rattle.world_engine.proofs.DeskAnswers.{new_desk, script_stops, script_ends, script_cut, taken_replies, prompt_replies}
-use Rattle.world_engine.proofs.Ends.{whole_is_within, too_long_is_past}
+use Rattle.world_engine.proofs.Ends.{whole_is_within, too_long_is_past, no_read_fault, no_write_fault}
 use Rattle.world_engine.proofs.stages.answer_script.Goals as goal
 
 pub returns-in-Whole-clause-output : goal.returns-in-Whole-clause-output
 returns-in-Whole-clause-output g c =
     let did = c.in-Ok.ensures in
     script_ends c.args.world _ _ _ c.in-Ok.done.answerer _ (c.status_of.ensures ∙ ap status_of c.has_refused.ensures) did.text did.state (whole_is_within _ c.in-Ok.done.ended SCRIPT_MOST c.in-Whole.is did.ended)
+
+pub returns-in-Whole-clause-partial : goal.returns-in-Whole-clause-partial
+returns-in-Whole-clause-partial g c = λ status. absurd (no_read_fault _ (sym c.status_of.ensures ∙ status))
+
+pub returns-in-Whole-clause-prompt : goal.returns-in-Whole-clause-prompt
+returns-in-Whole-clause-prompt g c = λ status. absurd (no_write_fault _ (sym c.status_of.ensures ∙ status))
 
 pub returns-in-Ok-clause-output : goal.returns-in-Ok-clause-output
 returns-in-Ok-clause-output g c =

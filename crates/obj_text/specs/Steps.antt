@@ -1,0 +1,49 @@
+-- What one line adds to what was read before it. No public clause cites this module.
+use Rattle.std.specs.Prelude.{◌≡◌, ⊤, ℕ, Bool, List, ◌++◌, nat_le, length, if◌then◌else◌, Result, Ok, Err}
+use Rattle.fixed_box.specs.declared.shapes.Point.{Point}
+use Rattle.obj_text.specs.Rows.{Given, onward, points_of, faces_of, name_after, positions_of, fan_from}
+use Rattle.obj_text.specs.declared.face.Face.{Face}
+use Rattle.obj_text.specs.declared.limits.TheConstants.{MOST_FACES}
+use Rattle.obj_text.specs.declared.fault.Why.{Why}
+use Rattle.obj_text.specs.declared.fault.Why.TheVariants.{TooManyTriangles}
+use Rattle.obj_text.specs.declared.line_fault.LineFault.{LineFault}
+use Rattle.obj_text.specs.declared.line_fault.LineFault.TheVariants.{Faulty, Memory}
+
+-- points, faces and a name after a line that gives this
+pub record Adds (given : Given) (points more_points : List Point) (faces more_faces : List Face) (name next : List ℕ)
+    : Type 0 where
+  pub points_are : more_points ≡ points ++ points_of given
+  pub faces_are : more_faces ≡ faces ++ faces_of given
+  pub name_is : next ≡ name_after name given
+
+-- the same after a line that was read; after one with a fault it cannot be
+abbrev pub IsAdded : Result Given Why → List Point → List Point → List Face → List Face → List ℕ → List ℕ → Type 0
+IsAdded (Ok given) points more_points faces more_faces name next =
+    Adds given points more_points faces more_faces name next
+IsAdded (Err why) points more_points faces more_faces name next = ⊥
+
+-- the faces behind those that a line adds
+abbrev pub extended : List Face → Result Given Why → Result (List Face) Why
+extended faces outcome = onward outcome (λ given. Ok (faces ++ faces_of given))
+
+-- faces, if they are not too many
+abbrev pub few : List Face → Result (List Face) Why
+few faces = if nat_le (length faces) MOST_FACES then Ok faces else Err TooManyTriangles
+
+-- the faces at the end of a line, where these words of it are left, the fan stands at these corners, and it is known
+-- or not that there are too many
+abbrev pub fan_left : ℕ → ℕ → Bool → List Face → ℕ → ℕ → List (List ℕ) → Result (List Face) Why
+fan_left vertices before over faces first last words =
+    onward (positions_of vertices before words) (λ corners.
+    if over then Err TooManyTriangles else few (faces ++ fan_from first last corners))
+
+-- what a refusal of a line says of it; want of memory says nothing
+abbrev pub IsLineFault : {A : Type 0} → Result A Why → LineFault → Type 0
+IsLineFault outcome (Faulty why) = outcome ≡ Err why
+IsLineFault outcome Memory = ⊤
+
+-- the position of a corner, as one line answers it
+abbrev pub IsCorner : Result ℕ Why → Result ℕ LineFault → Type 0
+IsCorner outcome (Ok corner) = outcome ≡ Ok corner
+IsCorner outcome (Err (Faulty why)) = outcome ≡ Err why
+IsCorner outcome (Err Memory) = ⊥

@@ -1,0 +1,163 @@
+//! References of an `f` line: a number, and up to two parts behind it that are not used.
+
+ghost use Rattle.std.specs.Prelude.{◌≡◌, ◌<◌, ◌≤◌, true, false, min, MatchOption, IsTrue};
+ghost use Rattle.text_words.specs.Lines.{is_word};
+ghost use Rattle.text_words.specs.Numbers.{is_digit, value_after, starts_minus};
+ghost use Rattle.decimals.specs.Decimals.{digits_of, past_digits, past_sign};
+ghost use Rattle.obj_text.specs.Rows.{has_part, past_part, at_most_one_part, at_most_two_parts, is_reference, position, position_of};
+
+use crate::fault::Why;
+use crate::limits::GREATEST_NUMBER;
+
+/// The position of the vertex that a word names, in a text with so many vertices, of which so many stand before its
+/// line.
+pub fn position(word: &[u8], vertices: u32, before: u32) -> Result<u32, Why>
+    requires vertices { vertices < GREATEST_NUMBER }
+    requires before { before < GREATEST_NUMBER }
+    ensures { result ≡ position_of vertices before word.now }
+{
+    let Some((minus, number)) = reference(word) else {
+        return Err(Why::BadReference);
+    };
+    if minus {
+        from_here(number, before)
+    } else {
+        from_start(number, vertices)
+    }
+}
+
+fn from_start(number: u32, vertices: u32) -> Result<u32, Why>
+    ensures { result ≡ position vertices 0 false number }
+{
+    if number == 0 || number > vertices {
+        return Err(Why::NoSuchVertex);
+    }
+    Ok(number - 1)
+}
+
+fn from_here(number: u32, before: u32) -> Result<u32, Why>
+    ensures { result ≡ position 0 before true number }
+{
+    if number == 0 || number > before {
+        return Err(Why::NoSuchVertex);
+    }
+    Ok(before - number)
+}
+
+/// Whether a reference's number has a minus, and its size, cut off.
+fn reference(word: &[u8]) -> Option<(bool, u32)>
+    ensures { MatchOption result (is_reference word.now ≡ false) (λ number. (is_reference word.now ≡ true)
+        × (number.0 ≡ starts_minus word.now)
+        × (number.1 ≡ min (value_after 0 (digits_of (past_sign word.now))) GREATEST_NUMBER)) }
+{
+    let size = past_sign(word);
+    if !starts_digit(size) {
+        return None;
+    }
+    let (number, rest) = digits(size);
+    if !at_most_two_parts(rest) {
+        return None;
+    }
+    Some((starts_minus(word), number))
+}
+
+fn at_most_two_parts(text: &[u8]) -> bool
+    ensures { result ≡ at_most_two_parts text.now }
+{
+    if text.is_empty() {
+        return true;
+    }
+    has_part(text) && at_most_one_part(past_part(text))
+}
+
+fn at_most_one_part(text: &[u8]) -> bool
+    ensures { result ≡ at_most_one_part text.now }
+{
+    if text.is_empty() {
+        return true;
+    }
+    has_part(text) && past_part(text).is_empty()
+}
+
+fn has_part(text: &[u8]) -> bool
+    ensures { result ≡ has_part text.now }
+{
+    match text.first() {
+        Some(b) => *b == b'/',
+        None => false,
+    }
+}
+
+/// What follows a `/` and the number behind it, if there is one.
+fn past_part(text: &[u8]) -> &[u8]
+    ensures { result.now ≡ past_part text.now }
+{
+    let [_, rest @ ..] = text else {
+        return text;
+    };
+    let size = past_sign(rest);
+    if starts_digit(size) {
+        past_digits(size)
+    } else {
+        rest
+    }
+}
+
+fn starts_minus(word: &[u8]) -> bool
+    ensures { result ≡ starts_minus word.now }
+{
+    match word.first() {
+        Some(b) => *b == b'-',
+        None => false,
+    }
+}
+
+fn past_sign(text: &[u8]) -> &[u8]
+    ensures { result.now ≡ past_sign text.now }
+{
+    match text.split_first() {
+        Some((b'-' | b'+', rest)) => rest,
+        _ => text,
+    }
+}
+
+fn starts_digit(text: &[u8]) -> bool
+    ensures { result ≡ is_word (digits_of text.now) }
+{
+    match text.first() {
+        Some(b) => is_digit(*b),
+        None => false,
+    }
+}
+
+fn past_digits(text: &[u8]) -> &[u8]
+    ensures { result.now ≡ past_digits text.now }
+{
+    for (at, b) in text.iter().enumerate() {
+        if !is_digit(*b) {
+            return &text[at..];
+        }
+    }
+    &text[text.len()..]
+}
+
+/// The number that the digits at the front write, cut off, and what follows them.
+fn digits(text: &[u8]) -> (u32, &[u8])
+    ensures value { result.0 ≡ min (value_after 0 (digits_of text.now)) GREATEST_NUMBER }
+    ensures rest { result.1.now ≡ past_digits text.now }
+{
+    let mut value = 0u64;
+    for (at, b) in text.iter().enumerate() {
+        if !is_digit(*b) {
+            return (value as u32, &text[at..]);
+        }
+        value = (value * 10 + u64::from(*b - b'0')).min(u64::from(GREATEST_NUMBER));
+    }
+    (value as u32, &text[text.len()..])
+}
+
+fn is_digit(b: u8) -> bool
+    ensures { result ≡ is_digit b }
+{
+    b'0' <= b && b <= b'9'
+}

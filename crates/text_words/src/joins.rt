@@ -1,0 +1,116 @@
+//! The joined lines of a text, and their words. A word never goes across a join, so each is lent from the text, and no
+//! joined line is ever put together.
+
+ghost use Rattle.std.specs.Prelude.{◌≡◌, ◌<◌, ◌∷◌, ◌^◌, [], length, MatchOption};
+ghost use Rattle.text_words.specs.Joins.{said, joins, is_line_end, joined_lines_of};
+
+use crate::lines::Lines;
+use crate::words::Words;
+use std::marker::Model;
+
+/// The joined lines of a text that are still to be read, of which one is at hand.
+///
+/// A line that ends with `\`, or with `\` and a carriage return, is joined with the next, with a space between; one
+/// with a `#` is not. Contracts see the words that are left of the line at hand, and the lines behind it.
+#[derive(Drop)]
+pub struct JoinedLines<'a> {
+    words: Words<'a>,
+    joins: bool,
+    lines: Lines<'a>,
+    number: u32,
+}
+
+impl<'a> Model for JoinedLines<'a> {
+    ghost use Rattle.std.specs.Prelude.{◌<◌, ◌+◌, ◌^◌, length};
+    ghost use Rattle.text_words.specs.Joins.{LinesLeft, joined_lines};
+    ghost use Rattle.text_words.specs.Parts.{left_of};
+
+    ghost Value = { LinesLeft };
+
+    ghost view = { λ a. left_of a.words a.joins (joined_lines (a.number + 1) a.lines) };
+
+    ghost invariant = { λ a. a.number + length a.lines < 2 ^ 32 };
+}
+
+impl<'a> JoinedLines<'a> {
+    /// All joined lines of the text, with none at hand.
+    pub fn new(text: &'a [u8]) -> JoinedLines<'a>
+        requires { length text.now < 2 ^ 32 }
+        ensures words { result.words ≡ [] }
+        ensures later { result.later ≡ joined_lines_of text.now }
+    {
+        JoinedLines {
+            words: Words::new(&text[..0]),
+            joins: false,
+            lines: Lines::new(text),
+            number: 0,
+        }
+    }
+
+    /// Goes on to the next joined line, and answers the number of its first line, counted from 1.
+    pub fn next_line(&mut self) -> Option<u32>
+        ensures { MatchOption result (self.old.later ≡ []) (λ number.
+            self.old.later ≡ (record { number = number; words = self.new.words }) ∷ self.new.later) }
+    {
+        while self.joins {
+            self.joins = said(self.lines.next()?).1;
+            self.number += 1;
+        }
+        let (front, joins) = said(self.lines.next()?);
+        self.words = Words::new(front);
+        self.joins = joins;
+        self.number += 1;
+        Some(self.number)
+    }
+
+    /// The next word of the line at hand.
+    pub fn next_word(&mut self) -> Option<&'a [u8]>
+        ensures word { MatchOption result ((self.old.words ≡ []) × (self.new.words ≡ [])) (λ word.
+            self.old.words ≡ word.now ∷ self.new.words) }
+        ensures later { self.new.later ≡ self.old.later }
+    {
+        loop {
+            if let Some(word) = self.words.next() {
+                return Some(word);
+            }
+            if !self.joins {
+                return None;
+            }
+            let Some(line) = self.lines.next() else {
+                self.joins = false;
+                return None;
+            };
+            let (front, joins) = said(line);
+            self.words = Words::new(front);
+            self.joins = joins;
+            self.number += 1;
+        }
+    }
+}
+
+/// What a line says, and whether it is joined with the next.
+fn said(line: &[u8]) -> (&[u8], bool)
+    ensures said { result.0.now ≡ said line.now }
+    ensures joins { result.1 ≡ joins line.now }
+{
+    for (at, b) in line.iter().enumerate() {
+        if *b == b'#' {
+            return (&line[..at], false);
+        }
+        if *b == b'\\' && is_line_end(&line[at + 1..]) {
+            return (&line[..at], true);
+        }
+    }
+    (line, false)
+}
+
+/// Whether this, behind a `\`, is the end of a line.
+fn is_line_end(rest: &[u8]) -> bool
+    ensures { result ≡ is_line_end rest.now }
+{
+    match rest {
+        [] => true,
+        [b] => *b == b'\r',
+        _ => false,
+    }
+}
