@@ -25,11 +25,17 @@ impl Model for Mesh {
     ghost Value = { MeshLists };
 
     ghost view = { λ m. record {
-        points = m.points.items; faces = m.faces.items; names = m.groups.keys; group_of = m.group_of.items
+      points = m.points.items;
+      faces = m.faces.items;
+      names = m.groups.keys;
+      group_of = m.group_of.items;
     } };
 
     ghost invariant = { λ m. IsMesh (record {
-        points = m.points.items; faces = m.faces.items; names = m.groups.keys; group_of = m.group_of.items
+      points = m.points.items;
+      faces = m.faces.items;
+      names = m.groups.keys;
+      group_of = m.group_of.items;
     }) };
 }
 

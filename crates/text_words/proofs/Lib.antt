@@ -1,4 +1,5 @@
 pub mod Cuts
 pub mod Joining
+pub mod Plain
 pub mod Spaces
 pub mod Tens

@@ -53,10 +53,10 @@ impl<'a> JoinedLines<'a> {
             self.old.later ≡ (record { number = number; words = self.new.words }) ∷ self.new.later) }
     {
         while self.joins {
-            self.joins = said(self.lines.next()?).1;
+            self.joins = self.lines.next_part()?.2;
             self.number += 1;
         }
-        let (front, joins) = said(self.lines.next()?);
+        let (_line, front, joins) = self.lines.next_part()?;
         self.words = Words::new(front);
         self.joins = joins;
         self.number += 1;
@@ -76,11 +76,10 @@ impl<'a> JoinedLines<'a> {
             if !self.joins {
                 return None;
             }
-            let Some(line) = self.lines.next() else {
+            let Some((_line, front, joins)) = self.lines.next_part() else {
                 self.joins = false;
                 return None;
             };
-            let (front, joins) = said(line);
             self.words = Words::new(front);
             self.joins = joins;
             self.number += 1;
@@ -89,7 +88,7 @@ impl<'a> JoinedLines<'a> {
 }
 
 /// What a line says, and whether it is joined with the next.
-fn said(line: &[u8]) -> (&[u8], bool)
+pub fn said(line: &[u8]) -> (&[u8], bool)
     ensures said { result.0.now ≡ said line.now }
     ensures joins { result.1 ≡ joins line.now }
 {

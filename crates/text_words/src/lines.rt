@@ -1,8 +1,11 @@
 //! The lines of a text, one after another, and what stands in a line before its comment.
 
-ghost use Rattle.std.specs.Prelude.{◌≡◌, ◌<◌, ◌∷◌, ◌++◌, [], length, MatchOption};
+ghost use Rattle.std.specs.Prelude.{◌≡◌, ◌<◌, ◌∷◌, ◌++◌, [], length, MatchOption, IfSome};
 ghost use Rattle.text_words.specs.Lines.{lines_of, IsOneLine, without_comment};
+ghost use Rattle.text_words.specs.Joins.{said, joins};
+ghost use Rattle.text_words.specs.Parts.{IsPlain};
 
+use crate::joins::said;
 use std::marker::Model;
 
 /// The lines of a text that are still to be read. Contracts see it as their list.
@@ -39,6 +42,36 @@ impl<'a> Lines<'a> {
         self.rest = rest;
         Some(line)
     }
+
+    /// The next line, what it says, and whether it is joined with the line after it.
+    pub fn next_part(&mut self) -> Option<(&'a [u8], &'a [u8], bool)>
+        ensures { MatchOption result ((self.old ≡ []) × (self.new ≡ [])) (λ part.
+            (self.old ≡ part.0.now ∷ self.new) × (part.1.now ≡ said part.0.now) × (part.2 ≡ joins part.0.now)) }
+    {
+        if let Some((line, rest)) = plain_line(self.rest) {
+            self.rest = rest;
+            return Some((line, line, false));
+        }
+        let line = self.next()?;
+        let (front, joins) = said(line);
+        Some((line, front, joins))
+    }
+}
+
+/// The first line and what follows its line feed, where neither `#` nor `\` stands in it: most lines, in one pass.
+fn plain_line(text: &[u8]) -> Option<(&[u8], &[u8])>
+    ensures line { IfSome result (λ parts.
+        IsOneLine parts.0.now × (text.now ≡ parts.0.now ++ 10 ∷ parts.1.now)) }
+    ensures plain { IfSome result (λ parts. IsPlain parts.0.now) }
+{
+    for (at, b) in text.iter().enumerate() {
+        match *b {
+            b'\n' => return Some((&text[..at], &text[at + 1..])),
+            b'#' | b'\\' => return None,
+            _ => {}
+        }
+    }
+    None
 }
 
 /// The first line of a text that is not empty, and what follows its line feed.

@@ -22,8 +22,11 @@ group_faces-requires-clause-few c = search (rules, (read_on c).few_faces)
 pub group_faces-requires-clause-grouped : goal.group_faces-requires-clause-grouped
 group_faces-requires-clause-grouped c =
     let new = c.read_line.new.gathered in
-    search (rules, grouped_before c.args.unit c.args.bytes.now c.next_line.new.self.later new.points.items
-    new.faces.items new.name.now c.loop-line.groups.keys c.loop-line.group_of.items (read_on c))
+    search (
+      rules,
+      grouped_before c.args.unit c.args.bytes.now c.next_line.new.self.later new.points.items
+          new.faces.items new.name.now c.loop-line.groups.keys c.loop-line.group_of.items (read_on c),
+    )
 
 pub loop-line-preserved : goal.loop-line-preserved
 loop-line-preserved c =
