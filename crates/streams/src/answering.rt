@@ -51,6 +51,8 @@ pub fn answer_lines<A: Answerer + Drop, S: Source, K: Sink>(
 
     ensures read { IsErrOf result Stop.Read → Rose (S.faults script.old) (S.faults script.new) }
     ensures write { IsErrOf result Stop.Write → Rose (K.faults out.old) (K.faults out.new) }
+    ensures source_kept { ¬ IsErrOf result Stop.Read → S.faults script.new ≡ S.faults script.old }
+    ensures sink_kept { ¬ IsErrOf result Stop.Write → K.faults out.new ≡ K.faults out.old }
     ensures source { S.faults script.old ≤ S.faults script.new }
     ensures sink { K.faults out.old ≤ K.faults out.new }
 {

@@ -23,7 +23,7 @@ pub fn fetch_all<H: Shelf>(
     ensures same { H.holds shelf.new ≡ H.holds shelf.old }
 
     ensures read { IsErrOf result LoadFault.Read → Rose (H.faults shelf.old) (H.faults shelf.new) ⊎ IsAbsent (H.holds shelf.old) name.now }
-    ensures kept { OnOk result (H.faults shelf.new ≡ H.faults shelf.old) }
+    ensures kept { ¬ IsErrOf result LoadFault.Read → H.faults shelf.new ≡ H.faults shelf.old }
     ensures later { H.faults shelf.old ≤ H.faults shelf.new }
 {
     let mut all = Vec::new(alloc);

@@ -47,7 +47,7 @@ impl<A: Answerer + Drop> Session<A> {
         ensures write { IsErrOf result Stop.Write → Rose (K.faults out.old) (K.faults out.new) }
         ensures read { IsErrOf result Stop.Read → ⊥ }
         ensures later { K.faults out.old ≤ K.faults out.new }
-        ensures kept { OnOk result (K.faults out.new ≡ K.faults out.old) }
+        ensures kept { ¬ IsErrOf result Stop.Write → K.faults out.new ≡ K.faults out.old }
     {
         let Ok(text) = self.answerer.answer(alloc, self.number, &self.line) else {
             return Err(Stop::Memory);
@@ -75,7 +75,7 @@ impl<A: Answerer + Drop> Session<A> {
         ensures write { IsErrOf result Stop.Write → Rose (K.faults out.old) (K.faults out.new) }
         ensures read { IsErrOf result Stop.Read → ⊥ }
         ensures later { K.faults out.old ≤ K.faults out.new }
-        ensures kept { OnOk result (K.faults out.new ≡ K.faults out.old) }
+        ensures kept { ¬ IsErrOf result Stop.Write → K.faults out.new ≡ K.faults out.old }
     {
         let mut rest = piece;
         while let Some((front, back)) = first_line(rest) {
@@ -100,7 +100,7 @@ impl<A: Answerer + Drop> Session<A> {
         ensures write { IsErrOf result Stop.Write → Rose (K.faults out.old) (K.faults out.new) }
         ensures read { IsErrOf result Stop.Read → ⊥ }
         ensures later { K.faults out.old ≤ K.faults out.new }
-        ensures kept { OnOk result (K.faults out.new ≡ K.faults out.old) }
+        ensures kept { ¬ IsErrOf result Stop.Write → K.faults out.new ≡ K.faults out.old }
     {
         if self.line.is_empty() {
             let Session { answerer, .. } = self;

@@ -1,6 +1,6 @@
 //! A run: all that the program does, from its words to its status.
 
-ghost use Rattle.std.specs.Prelude.{◌≡◌, ◌⊎◌, ◌≤◌, ◌+◌, None, IfSome};
+ghost use Rattle.std.specs.Prelude.{◌≡◌, ◌⊎◌, ◌≤◌, ◌+◌, ◌≢◌, None, IfSome};
 ghost use Rattle.std.specs.Io.KnownBytes.{Appends};
 ghost use Rattle.outside.specs.Causes.{Rose};
 ghost use Rattle.streams.specs.Taken.{Taken, Loses, LosesAtMost, IsPrompt};
@@ -75,6 +75,11 @@ pub fn run<R: Threads + Sync, H: Shelf, S: Source, K: Sink, G: Gate>(
     ensures shelf { H.faults shelf.old ≤ H.faults shelf.new }
     ensures source { S.faults script.old ≤ S.faults script.new }
     ensures sink { K.faults out.old ≤ K.faults out.new }
+
+    // No failure is passed over: a count that rose is told by the status, also where memory ran out.
+    ensures shelf_kept { result ≢ Status.ReadFault → H.faults shelf.new ≡ H.faults shelf.old }
+    ensures source_kept { result ≢ Status.ReadFault → S.faults script.new ≡ S.faults script.old }
+    ensures sink_kept { result ≢ Status.WriteFault → K.faults out.new ≡ K.faults out.old }
 {
     run_words(rt, gate, alloc, words, shelf, script, out)
 }
@@ -109,6 +114,9 @@ fn run_words<R: Threads + Sync, H: Shelf, S: Source, K: Sink, G: Gate>(
     ensures shelf { H.faults shelf.old ≤ H.faults shelf.new }
     ensures source { S.faults script.old ≤ S.faults script.new }
     ensures sink { K.faults out.old ≤ K.faults out.new }
+    ensures shelf_kept { result ≢ Status.ReadFault → H.faults shelf.new ≡ H.faults shelf.old }
+    ensures source_kept { result ≢ Status.ReadFault → S.faults script.new ≡ S.faults script.old }
+    ensures sink_kept { result ≢ Status.WriteFault → K.faults out.new ≡ K.faults out.old }
 {
     let Some(name) = mesh_name(words) else {
         return say(out, b"bad command line\n", Status::Usage);

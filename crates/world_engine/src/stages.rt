@@ -27,6 +27,7 @@ pub fn say<K: Sink>(out: &mut K, text: &[u8], status: Status) -> Status
     ensures output { Fulfils (says text.now status) result (K.written out.old) (K.written out.new) }
     ensures answers { (result ≡ status) ⊎ ((result ≡ Status.WriteFault) × Rose (K.faults out.old) (K.faults out.new)) }
     ensures sink { K.faults out.old ≤ K.faults out.new }
+    ensures sink_kept { result ≢ Status.WriteFault → K.faults out.new ≡ K.faults out.old }
 {
     match write_all(out, text) {
         Ok(()) => status,
@@ -64,6 +65,8 @@ fn answer_script<S: Source, K: Sink>(
     ensures most { LosesAtMost (SCRIPT_MOST + 1) (S.left script.old) (S.left script.new) }
     ensures source { S.faults script.old ≤ S.faults script.new }
     ensures sink { K.faults out.old ≤ K.faults out.new }
+    ensures source_kept { result ≢ Status.ReadFault → S.faults script.new ≡ S.faults script.old }
+    ensures sink_kept { result ≢ Status.WriteFault → K.faults out.new ≡ K.faults out.old }
 {
     let desk = Desk {
         world,
@@ -115,6 +118,8 @@ pub fn answer_mesh<R: Threads + Sync, S: Source, K: Sink, G: Gate>(
     ensures faulty { IsFaulty (mesh_of UNIT text.items) → IsUntouched (S.left script.old) (S.left script.new) (S.faults script.old) (S.faults script.new) }
     ensures source { S.faults script.old ≤ S.faults script.new }
     ensures sink { K.faults out.old ≤ K.faults out.new }
+    ensures source_kept { result ≢ Status.ReadFault → S.faults script.new ≡ S.faults script.old }
+    ensures sink_kept { result ≢ Status.WriteFault → K.faults out.new ≡ K.faults out.old }
 {
     let mesh = match open_mesh(alloc, text) {
         Ok(mesh) => mesh,
@@ -132,6 +137,7 @@ fn refuse_mesh<K: Sink>(alloc: Global, line: u32, why: Why, out: &mut K) -> Stat
     ensures output { Fulfils (says (refusal_text (record { line = line; why = why })) Status.MeshRefused) result (K.written out.old) (K.written out.new) }
     ensures answers { (result ≡ Status.MeshRefused) ⊎ (result ≡ Status.Memory) ⊎ ((result ≡ Status.WriteFault) × Rose (K.faults out.old) (K.faults out.new)) }
     ensures sink { K.faults out.old ≤ K.faults out.new }
+    ensures sink_kept { result ≢ Status.WriteFault → K.faults out.new ≡ K.faults out.old }
 {
     let Ok(text) = refusal_text(alloc, line, why) else {
         return Status::Memory;

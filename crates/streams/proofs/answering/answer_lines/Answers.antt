@@ -149,5 +149,5 @@ loop-count-preserved g c =
           (length-part k count buf rest (omega (arith, all)) within ∙ all)
           (λ front. answered_more g.A.Answerer.text g.A.Answerer.after c.args.answerer _ _ _ s.answerer t.answerer s.number t.number s.line.items t.line.items part front did.owes did.state);
       source = c.in-Ok.ensures.cause.kept ∙ c.loop-count.invariant.source;
-      sink = did.kept ∙ c.loop-count.invariant.sink;
+      sink = did.kept (λ no. absurd (let clash : ⊥ = cc in clash)) ∙ c.loop-count.invariant.sink;
     }

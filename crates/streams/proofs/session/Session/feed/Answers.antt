@@ -44,5 +44,5 @@ loop-front-preserved g c =
           ∙ sym (state_next after s.answerer unfinished s.line.items front back c.loop-front.rest.now more ended c.in-Ok.ensures.items c.in-Some.ensures.1 whole)
           ∙ c.loop-front.invariant.state unfinished more;
       number = omega (arith, ap length c.in-Some.ensures.1, length-append front (10 ∷ back), done.number, c.loop-front.invariant.number);
-      kept = done.kept ∙ c.loop-front.invariant.kept;
+      kept = done.kept (λ no. absurd (let clash : ⊥ = cc in clash)) ∙ c.loop-front.invariant.kept;
     }
