@@ -2,4 +2,4 @@ pub mod Cuts
 pub mod Joining
 pub mod Plain
 pub mod Spaces
-pub mod Tens
+pub mod FirstBytes

@@ -27,11 +27,6 @@ ended_lines text = cut_lines false text
 abbrev pub IsOneLine : List ℕ → Type 0
 IsOneLine text = IsTrue (list_all (λ b. not (b == 10)) text)
 
--- what stands in a line before its first '#'
-abbrev pub without_comment : List ℕ → List ℕ
-without_comment [] = []
-without_comment (b ∷ bs) = if b == 35 then [] else b ∷ without_comment bs
-
 -- tab, vertical tab, form feed, carriage return and space
 abbrev pub is_blank : ℕ → Bool
 is_blank b = b == 9 || b == 11 || b == 12 || b == 13 || b == 32

@@ -1,11 +1,12 @@
-//! The lines of a text, one after another, and what stands in a line before its comment.
+//! The lines of a text, one after another.
 
 ghost use Rattle.std.specs.Prelude.{◌≡◌, ◌<◌, ◌∷◌, ◌++◌, [], length, MatchOption, IfSome};
-ghost use Rattle.text_words.specs.Lines.{lines_of, IsOneLine, without_comment};
+ghost use Rattle.text_words.specs.Lines.{lines_of, IsOneLine};
 ghost use Rattle.text_words.specs.Joins.{said, joins};
 ghost use Rattle.text_words.specs.Parts.{IsPlain};
 
 use crate::joins::said;
+use memchr::memchr3;
 use std::marker::Model;
 
 /// The lines of a text that are still to be read. Contracts see it as their list.
@@ -64,14 +65,11 @@ fn plain_line(text: &[u8]) -> Option<(&[u8], &[u8])>
         IsOneLine parts.0.now × (text.now ≡ parts.0.now ++ 10 ∷ parts.1.now)) }
     ensures plain { IfSome result (λ parts. IsPlain parts.0.now) }
 {
-    for (at, b) in text.iter().enumerate() {
-        match *b {
-            b'\n' => return Some((&text[..at], &text[at + 1..])),
-            b'#' | b'\\' => return None,
-            _ => {}
-        }
+    let at = memchr3(b'\n', b'#', b'\\', text)?;
+    if text[at] != b'\n' {
+        return None;
     }
-    None
+    Some((&text[..at], &text[at + 1..]))
 }
 
 /// The first line of a text that is not empty, and what follows its line feed.
@@ -97,16 +95,4 @@ pub fn first_line(text: &[u8]) -> Option<(&[u8], &[u8])>
         }
     }
     None
-}
-
-/// What stands in a line before its first `#`.
-pub fn without_comment(line: &[u8]) -> &[u8]
-    ensures { result.now ≡ without_comment line.now }
-{
-    for (at, b) in line.iter().enumerate() {
-        if *b == b'#' {
-            return &line[..at];
-        }
-    }
-    line
 }

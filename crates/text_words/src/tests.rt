@@ -5,12 +5,12 @@ use std::test::Fail;
 
 #[test]
 fn lines_and_words_are_cut(rt: HostRuntime) -> Result<(), Fail> {
-    let mut lines = Lines::new(b"one\n\n two # three\n");
+    let mut lines = Lines::new(b"one\n\n two \n");
     assert_eq!(rt; lines.next(), Some(b"one".as_slice()));
     assert_eq!(rt; lines.next(), Some(b"".as_slice()));
     let last = lines.next().ok_or("three lines")?;
     assert_eq!(rt; lines.next(), None);
-    let mut words = Words::new(without_comment(last));
+    let mut words = Words::new(last);
     assert_eq!(rt; words.count(), 1);
     assert_eq!(rt; words.next(), Some(b"two".as_slice()));
     assert_eq!(rt; words.count(), 0);
@@ -26,18 +26,6 @@ fn lines_and_words_are_cut(rt: HostRuntime) -> Result<(), Fail> {
     );
     assert_eq!(rt; first_word(b" \r"), None);
     Ok(())
-}
-
-#[test]
-fn whole_numbers_are_read(rt: HostRuntime) {
-    assert_eq!(rt; number(b"0042", 4), Some(42));
-    assert_eq!(rt; number(b"0042", 3), None);
-    assert_eq!(rt; number(b"", 3), None);
-    assert_eq!(rt; number(b"4a", 3), None);
-    assert_eq!(rt; signed_number(b"-999999999", 9), Some(-999_999_999));
-    assert_eq!(rt; signed_number(b"-0", 1), Some(0));
-    assert_eq!(rt; signed_number(b"-", 9), None);
-    assert_eq!(rt; grid_steps(-3, 65536), -196_608);
 }
 
 #[test]

@@ -89,5 +89,5 @@ fn cut_word(line: &[u8]) -> (&[u8], &[u8])
 fn is_blank(b: u8) -> bool
     ensures { result ≡ is_blank b }
 {
-    matches!(b, 9 | 11 | 12 | 13 | 32)
+    b <= 32 && matches!(b, 9 | 11 | 12 | 13 | 32)
 }

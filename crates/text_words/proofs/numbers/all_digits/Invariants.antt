@@ -1,7 +1,0 @@
-use Rattle.std.proofs.Common.{◌≡◌, drop}
-use Rattle.std.specs.List.{list_all}
-use Rattle.text_words.specs.Numbers.{is_digit}
-use Rattle.text_words.proofs.numbers.all_digits.Given as goal
-
-abbrev pub invariant-loop-b : goal.invariant-loop-b
-invariant-loop-b l = list_all is_digit (drop l.b-index l.word) ≡ list_all is_digit l.word
