@@ -1,4 +1,5 @@
 pub mod Runs
+pub mod Room
 pub mod Lengths
 pub mod Powers
 pub mod Floors

@@ -1,5 +1,6 @@
 -- Digits that are read one by one, with a number that is cut off at a limit.
-use Rattle.std.proofs.Common.{arith, ◌≡◌, ◌≤◌, ◌*◌, ◌+◌, ◌-◌, ◌∷◌, ◌++◌, [], List, length, cond, drop, min, ℕ, Bool, true, false, refl, sym, ap, ◌∙◌}
+use Rattle.std.proofs.Common.{arith, ◌≡◌, ◌≤◌, ◌*◌, ◌+◌, ◌-◌, ◌∷◌, ◌++◌, [], List, length, cond, ◌==◌, drop, min, ℕ, Bool, true, false, refl, sym, ap, ◌∙◌}
+use Rattle.std.proofs.lemmas.Bool.Decides.{nat_tests}
 use Rattle.text_words.specs.Numbers.{is_digit, value_after}
 use Rattle.decimals.specs.Decimals.{digits_of, past_digits}
 
@@ -61,6 +62,13 @@ next_digit c n v x at b text e digit is so_far =
     ∙ sym (one_more c n b rest)
     ∙ ap (λ k. min (value_after k rest) c) (sym is)
 
+-- the same, with no limit
+pub digits_next : (n at b : ℕ) (text : List ℕ) → drop at text ≡ b ∷ drop (at + 1) text → is_digit b ≡ true
+    → value_after n (digits_of (drop at text)) ≡ value_after (n * 10 + (b - 48)) (digits_of (drop (at + 1) text))
+digits_next n at b text e digit =
+    let rest = digits_of (drop (at + 1) text) in
+    ap (λ k. value_after n (digits_of k)) e ∙ ap (λ k. value_after n (cond k (b ∷ rest) [])) digit
+
 pub past_next : (at b : ℕ) (text : List ℕ) → drop at text ≡ b ∷ drop (at + 1) text → is_digit b ≡ true
     → past_digits (drop at text) ≡ past_digits (drop (at + 1) text)
 past_next at b text e digit =
@@ -76,3 +84,10 @@ all_by b bs false later e = absurd (cc)
 pub all_digits : (text : List ℕ) → past_digits text ≡ [] → digits_of text ≡ text
 all_digits [] e = refl
 all_digits (b ∷ bs) e = all_by b bs (is_digit b) (all_digits bs) e
+
+-- digits that nothing follows
+pub digits_all : (text rest : List ℕ) → rest ≡ past_digits text → (length rest == 0) ≡ true
+    → length text ≡ length (digits_of text)
+digits_all text rest e none =
+    let no : length rest ≡ 0 = grind (arith, nat_tests, none) in
+    omega (arith, digits_count text rest e, no)

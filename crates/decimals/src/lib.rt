@@ -11,6 +11,7 @@ mod grid_values;
 mod limits;
 mod parts;
 mod rounding;
+mod short;
 mod whole_numbers;
 
 pub use fault::NumberFault;

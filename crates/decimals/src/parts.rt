@@ -1,4 +1,4 @@
-//! A decimal word, taken apart from left to right in one pass.
+//! A decimal word, taken apart from left to right in one pass. A short one is tried first.
 
 ghost use Rattle.std.specs.Prelude.{◌≡◌, ◌≤◌, ◌+◌, ◌⊎◌, true, false, length, min, nat_lt, IfSome, MatchOption};
 ghost use Rattle.text_words.specs.Numbers.{value_after, starts_minus};
@@ -8,10 +8,22 @@ ghost use Rattle.decimals.specs.Rounding.{IsReadAs};
 use crate::decimal::Decimal;
 use crate::digits::digits;
 use crate::limits::PAST_MOST_DIGITS;
+use crate::short::short_parts;
 
 /// The parts of a decimal, or `None` where the word is none.
-#[tactic(auto, using(crate::proofs::Words::no_digit, crate::proofs::Words::no_ending))]
 pub fn decimal_parts(word: &[u8]) -> Option<Decimal>
+    ensures { MatchOption result (is_decimal word.now ≡ false) (IsReadAs word.now) }
+{
+    if let Some(decimal) = short_parts(word) {
+        return Some(decimal);
+    }
+    long_parts(word)
+}
+
+/// The parts of a decimal of any length.
+#[inline(never)]
+#[tactic(auto, using(crate::proofs::Words::no_digit, crate::proofs::Words::no_ending))]
+fn long_parts(word: &[u8]) -> Option<Decimal>
     ensures { MatchOption result (is_decimal word.now ≡ false) (IsReadAs word.now) }
 {
     let (minus, body) = sign(word);
@@ -31,14 +43,14 @@ pub fn decimal_parts(word: &[u8]) -> Option<Decimal>
 }
 
 /// Whether a digit stands before the point or behind it.
-fn has_digit(before: usize, behind: usize) -> bool
+pub fn has_digit(before: usize, behind: usize) -> bool
     ensures { result ≡ nat_lt 0 (before + behind) }
 {
     before > 0 || behind > 0
 }
 
 /// Whether a `-` stands at the front, and what follows a sign.
-fn sign(text: &[u8]) -> (bool, &[u8])
+pub fn sign(text: &[u8]) -> (bool, &[u8])
     ensures minus { result.0 ≡ starts_minus text.now }
     ensures rest { result.1.now ≡ past_sign text.now }
 {

@@ -1,6 +1,6 @@
 use Rattle.std.proofs.Common.{rules}
 use Rattle.decimals.proofs.Words.{parts_read}
-use Rattle.decimals.proofs.parts.decimal_parts.Goals as goal
+use Rattle.decimals.proofs.parts.long_parts.Goals as goal
 
 pub returns : goal.returns
 returns c =
