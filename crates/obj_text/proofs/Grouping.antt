@@ -38,7 +38,7 @@ seen_by true names y e = e
 seen_by false names y e = any_last (bytes_eq y) names y (same_name y)
 
 -- a name is there once it is put there
-now_seen : (names : List (List ℕ)) (y : List ℕ) → list_any (bytes_eq y) (with_name names y) ≡ true
+pub now_seen : (names : List (List ℕ)) (y : List ℕ) → list_any (bytes_eq y) (with_name names y) ≡ true
 now_seen names y = seen_by (list_any (bytes_eq y) names) names y refl
 
 -- and it is put there once

@@ -2,6 +2,8 @@ pub mod Fans
 pub mod Givens
 pub mod FirstSeen
 pub mod Grouping
+pub mod KnownGroups
+pub mod Counts
 pub mod LineGroups
 pub mod Readings
 mod Examples

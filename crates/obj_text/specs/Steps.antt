@@ -1,5 +1,7 @@
 -- What one line adds to what was read before it. No public clause cites this module.
-use Rattle.std.specs.Prelude.{◌≡◌, ⊤, ℕ, Bool, List, ◌++◌, nat_le, length, if◌then◌else◌, Result, Ok, Err}
+use Rattle.std.specs.Prelude.{◌≡◌, ⊤, ℕ, Bool, List, ◌++◌, nat_le, length, if◌then◌else◌, Result, Ok, Err, Option, None, Some, true}
+use Rattle.std.specs.List.{list_any, position_or_len}
+use Rattle.std.specs.Str.{bytes_eq}
 use Rattle.fixed_box.specs.declared.shapes.Point.{Point}
 use Rattle.obj_text.specs.Rows.{Given, onward, points_of, faces_of, name_after, positions_of, fan_from}
 use Rattle.obj_text.specs.declared.face.Face.{Face}
@@ -25,6 +27,16 @@ IsAdded (Err why) points more_points faces more_faces name next = ⊥
 -- the faces behind those that a line adds
 abbrev pub extended : List Face → Result Given Why → Result (List Face) Why
 extended faces outcome = onward outcome (λ given. Ok (faces ++ faces_of given))
+
+-- the place is that of the name, which is among the groups
+pub record IsGroup (groups : List (List ℕ)) (name : List ℕ) (place : ℕ) : Type 0 where
+  pub there : list_any (bytes_eq name) groups ≡ true
+  pub place_is : place ≡ position_or_len (bytes_eq name) groups
+
+-- a line forgets which group the current name has, or leaves that and the name as they were
+abbrev pub KeepsGroup : List ℕ → List ℕ → Option ℕ → Option ℕ → Type 0
+KeepsGroup name next known None = ⊤
+KeepsGroup name next known (Some place) = (next ≡ name) × (known ≡ Some place)
 
 -- faces, if they are not too many
 abbrev pub few : List Face → Result (List Face) Why

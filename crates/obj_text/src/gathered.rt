@@ -3,10 +3,11 @@
 use crate::face::Face;
 use fixed_box::Point;
 
-/// The points and the faces so far, and the current name.
+/// The points and the faces so far, the current name, and the place of its group, where that is known.
 #[derive(Drop)]
 pub struct Gathered<'a> {
     pub points: Vec<Point>,
     pub faces: Vec<Face>,
     pub name: &'a [u8],
+    pub group: Option<u32>,
 }

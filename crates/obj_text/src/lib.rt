@@ -15,6 +15,7 @@ mod name_bytes;
 mod read;
 mod references;
 mod rows;
+mod vertex_count;
 
 pub use decimals::{GREATEST, MOST_DIGITS, NumberFault, grid, whole};
 pub use face::Face;

@@ -1,17 +1,16 @@
-//! A whole text, read into a mesh in two passes: the first counts the vertices, which decides what faces may name,
-//! the second reads line after line and stops at the first that has a fault.
+//! A whole text, read into a mesh line after line, up to the first line that has a fault.
 
 ghost use Rattle.std.specs.Prelude.{◌≡◌, ◌≤◌, length, Ok, IfOk, IfErr};
-ghost use Rattle.text_words.specs.Joins.{joined_lines_of};
-ghost use Rattle.obj_text.specs.Texts.{mesh_of, vertices_of, IsRefusalOf};
+ghost use Rattle.obj_text.specs.Texts.{mesh_of, IsRefusalOf};
 
 use crate::fault::MeshFault;
 use crate::gathered::Gathered;
 use crate::groups::group_faces;
-use crate::limits::{MOST_BYTES, MOST_POINTS};
+use crate::limits::MOST_BYTES;
 use crate::line_fault::LineFault;
 use crate::mesh::Mesh;
-use crate::rows::{is_vertex, read_line};
+use crate::rows::read_line;
+use crate::vertex_count::VertexCount;
 use fixed_box::UNIT_MAX;
 use indexmap::IndexSet;
 use std::alloc::Global;
@@ -29,30 +28,31 @@ pub fn read_mesh(alloc: Global, bytes: &[u8], unit: u32) -> Result<Mesh, MeshFau
     ensures mesh { IfOk result (λ mesh. mesh_of unit bytes.now ≡ Ok mesh) }
     ensures refusal { IfErr result (IsRefusalOf (mesh_of unit bytes.now)) }
 {
-    let vertices = count_vertices(bytes);
-    let Ok(points) = Vec::with_capacity(alloc, MOST_POINTS.min(vertices as usize)) else {
-        return Err(MeshFault::Memory);
-    };
+    let mut vertices = VertexCount::new(bytes);
     let mut gathered = Gathered {
-        points,
+        points: Vec::new(alloc),
         faces: Vec::new(alloc),
         name: b"default",
+        group: None,
     };
     let mut groups = IndexSet::new(alloc);
     let mut group_of = Vec::new(alloc);
     let mut lines = JoinedLines::new(bytes);
     while let Some(line) = lines.next_line() {
-        match read_line(&mut lines, unit, vertices, &mut gathered) {
+        match read_line(&mut lines, unit, &mut vertices, &mut gathered) {
             Ok(()) => {}
             Err(LineFault::Faulty(why)) => return Err(MeshFault::Line { line, why }),
             Err(LineFault::Memory) => return Err(MeshFault::Memory),
         }
+        let faces = gathered.faces.len();
+        let name = gathered.name;
         let Ok(()) = group_faces(
             alloc,
             &mut groups,
             &mut group_of,
-            gathered.name,
-            gathered.faces.len(),
+            name,
+            &mut gathered.group,
+            faces,
         ) else {
             return Err(MeshFault::Memory);
         };
@@ -64,20 +64,4 @@ pub fn read_mesh(alloc: Global, bytes: &[u8], unit: u32) -> Result<Mesh, MeshFau
         group_of,
         groups,
     })
-}
-
-/// How many lines begin with the word `v`.
-fn count_vertices(bytes: &[u8]) -> u32
-    requires { length bytes.now ≤ MOST_BYTES }
-    ensures vertices { result ≡ vertices_of (joined_lines_of bytes.now) }
-    ensures few { result ≤ MOST_BYTES }
-{
-    let mut lines = JoinedLines::new(bytes);
-    let mut count = 0;
-    while let Some(_) = lines.next_line() {
-        if is_vertex(&mut lines) {
-            count += 1;
-        }
-    }
-    count
 }

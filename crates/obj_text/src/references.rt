@@ -8,13 +8,15 @@ ghost use Rattle.obj_text.specs.Rows.{has_part, past_part, at_most_one_part, at_
 
 use crate::fault::Why;
 use crate::limits::GREATEST_NUMBER;
+use crate::vertex_count::VertexCount;
 
 /// The position of the vertex that a word names, in a text with so many vertices, of which so many stand before its
 /// line.
-pub fn position(word: &[u8], vertices: u32, before: u32) -> Result<u32, Why>
-    requires vertices { vertices < GREATEST_NUMBER }
-    requires before { before < GREATEST_NUMBER }
-    ensures { result ≡ position_of vertices before word.now }
+pub fn position(word: &[u8], vertices: &mut VertexCount, before: u32) -> Result<u32, Why>
+    requires vertices { vertices.old < GREATEST_NUMBER }
+    requires before { before ≤ vertices.old }
+    ensures position { result ≡ position_of vertices.old before word.now }
+    ensures same { vertices.new ≡ vertices.old }
 {
     let Some((minus, number)) = reference(word) else {
         return Err(Why::BadReference);
@@ -22,14 +24,19 @@ pub fn position(word: &[u8], vertices: u32, before: u32) -> Result<u32, Why>
     if minus {
         from_here(number, before)
     } else {
-        from_start(number, vertices)
+        from_start(number, vertices, before)
     }
 }
 
-fn from_start(number: u32, vertices: u32) -> Result<u32, Why>
-    ensures { result ≡ position vertices 0 false number }
+fn from_start(number: u32, vertices: &mut VertexCount, before: u32) -> Result<u32, Why>
+    requires { before ≤ vertices.old }
+    ensures position { result ≡ position vertices.old 0 false number }
+    ensures same { vertices.new ≡ vertices.old }
 {
-    if number == 0 || number > vertices {
+    if number == 0 {
+        return Err(Why::NoSuchVertex);
+    }
+    if number > before && number > vertices.get() {
         return Err(Why::NoSuchVertex);
     }
     Ok(number - 1)

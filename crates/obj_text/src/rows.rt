@@ -2,9 +2,9 @@
 //! before its vertices.
 
 ghost use Rattle.std.specs.Prelude.{◌≡◌, ◌<◌, ◌≤◌, ◌∷◌, ◌++◌, [], length, MatchOption, MatchResult, OnOk, IfErr, IfOk, Ok, false};
-ghost use Rattle.obj_text.specs.Rows.{given_of, vertex_of, triangles_of, is_vertex, name_of, position_of};
+ghost use Rattle.obj_text.specs.Rows.{given_of, vertex_of, triangles_of, name_of, position_of};
 ghost use Rattle.obj_text.specs.Rows.{Vertex};
-ghost use Rattle.obj_text.specs.Steps.{IsAdded, IsLineFault, IsCorner, extended, fan_left};
+ghost use Rattle.obj_text.specs.Steps.{IsAdded, KeepsGroup, IsLineFault, IsCorner, extended, fan_left};
 
 use crate::coordinates::point;
 use crate::face::Face;
@@ -13,6 +13,7 @@ use crate::gathered::Gathered;
 use crate::limits::{GREATEST_NUMBER, MOST_FACES, MOST_POINTS};
 use crate::line_fault::LineFault;
 use crate::references::position;
+use crate::vertex_count::VertexCount;
 use fixed_box::Point;
 use text_words::JoinedLines;
 
@@ -20,19 +21,22 @@ use text_words::JoinedLines;
 pub fn read_line<'a>(
     line: &mut JoinedLines<'a>,
     unit: u32,
-    vertices: u32,
+    vertices: &mut VertexCount,
     gathered: &mut Gathered<'a>,
 ) -> Result<(), LineFault>
-    requires vertices { vertices < GREATEST_NUMBER }
+    requires vertices { vertices.old < GREATEST_NUMBER }
+    requires before { length gathered.now.points.items ≤ vertices.old }
     requires points { length gathered.now.points.items ≤ MOST_POINTS }
     requires faces { length gathered.now.faces.items ≤ MOST_FACES }
     ensures added { OnOk result (IsAdded
-        (given_of unit vertices (length gathered.old.points.items) (length gathered.old.faces.items) line.old.words)
+        (given_of unit vertices.old (length gathered.old.points.items) (length gathered.old.faces.items) line.old.words)
         gathered.old.points.items gathered.new.points.items gathered.old.faces.items gathered.new.faces.items
         gathered.old.name.now gathered.new.name.now) }
     ensures fault { IfErr result (IsLineFault
-        (given_of unit vertices (length gathered.old.points.items) (length gathered.old.faces.items) line.old.words)) }
+        (given_of unit vertices.old (length gathered.old.points.items) (length gathered.old.faces.items) line.old.words)) }
+    ensures group { KeepsGroup gathered.old.name.now gathered.new.name.now gathered.old.group gathered.new.group }
     ensures later { line.new.later ≡ line.old.later }
+    ensures same { vertices.new ≡ vertices.old }
 {
     let Some(keyword) = line.next_word() else {
         return Ok(());
@@ -47,19 +51,9 @@ pub fn read_line<'a>(
     }
     if keyword == b"g".as_slice() || keyword == b"o".as_slice() {
         gathered.name = name(line);
+        gathered.group = None;
     }
     Ok(())
-}
-
-/// Whether the line at hand begins with the word `v`.
-pub fn is_vertex(line: &mut JoinedLines) -> bool
-    ensures vertex { result ≡ is_vertex line.old.words }
-    ensures later { line.new.later ≡ line.old.later }
-{
-    match line.next_word() {
-        Some(word) => word == b"v".as_slice(),
-        None => false,
-    }
 }
 
 /// The name behind the word `g` or `o`.
@@ -118,18 +112,19 @@ fn three<'a>(line: &mut JoinedLines<'a>) -> Option<(&'a [u8], &'a [u8], &'a [u8]
 /// Adds the triangles behind the word `f`, in a text with so many vertices, of which so many stand before this line.
 fn triangles(
     line: &mut JoinedLines,
-    vertices: u32,
+    vertices: &mut VertexCount,
     before: u32,
     faces: &mut Vec<Face>,
 ) -> Result<(), LineFault>
-    requires vertices { vertices < GREATEST_NUMBER }
-    requires before { before < GREATEST_NUMBER }
+    requires vertices { vertices.old < GREATEST_NUMBER }
+    requires before { before ≤ vertices.old }
     requires faces { length faces.now.items ≤ MOST_FACES }
     ensures faces { OnOk result (extended faces.old.items
-        (triangles_of vertices before (length faces.old.items) line.old.words) ≡ Ok faces.new.items) }
+        (triangles_of vertices.old before (length faces.old.items) line.old.words) ≡ Ok faces.new.items) }
     ensures fault { IfErr result (IsLineFault
-        (triangles_of vertices before (length faces.old.items) line.old.words)) }
+        (triangles_of vertices.old before (length faces.old.items) line.old.words)) }
     ensures later { line.new.later ≡ line.old.later }
+    ensures same { vertices.new ≡ vertices.old }
 {
     let Some((a, b, c)) = three(line) else {
         return Err(LineFault::Faulty(Why::TooFewWords));
@@ -139,10 +134,11 @@ fn triangles(
     fan(line, vertices, before, first, second, c, faces)
 }
 
-fn corner(word: &[u8], vertices: u32, before: u32) -> Result<u32, LineFault>
-    requires vertices { vertices < GREATEST_NUMBER }
-    requires before { before < GREATEST_NUMBER }
-    ensures { IsCorner (position_of vertices before word.now) result }
+fn corner(word: &[u8], vertices: &mut VertexCount, before: u32) -> Result<u32, LineFault>
+    requires vertices { vertices.old < GREATEST_NUMBER }
+    requires before { before ≤ vertices.old }
+    ensures corner { IsCorner (position_of vertices.old before word.now) result }
+    ensures same { vertices.new ≡ vertices.old }
 {
     match position(word, vertices, before) {
         Ok(corner) => Ok(corner),
@@ -153,21 +149,22 @@ fn corner(word: &[u8], vertices: u32, before: u32) -> Result<u32, LineFault>
 /// Adds the triangles of a fan, whose first two corners are known, at a third word and at those behind it.
 fn fan<'a>(
     line: &mut JoinedLines<'a>,
-    vertices: u32,
+    vertices: &mut VertexCount,
     before: u32,
     first: u32,
     second: u32,
     third: &'a [u8],
     faces: &mut Vec<Face>,
 ) -> Result<(), LineFault>
-    requires vertices { vertices < GREATEST_NUMBER }
-    requires before { before < GREATEST_NUMBER }
+    requires vertices { vertices.old < GREATEST_NUMBER }
+    requires before { before ≤ vertices.old }
     requires faces { length faces.now.items ≤ MOST_FACES }
-    ensures faces { OnOk result (fan_left vertices before false faces.old.items first second
+    ensures faces { OnOk result (fan_left vertices.old before false faces.old.items first second
         (third.now ∷ line.old.words) ≡ Ok faces.new.items) }
     ensures fault { IfErr result (IsLineFault
-        (fan_left vertices before false faces.old.items first second (third.now ∷ line.old.words))) }
+        (fan_left vertices.old before false faces.old.items first second (third.now ∷ line.old.words))) }
     ensures later { line.new.later ≡ line.old.later }
+    ensures same { vertices.new ≡ vertices.old }
 {
     let mut word = third;
     let mut last = second;

@@ -4,7 +4,7 @@ use Rattle.obj_text.proofs.Readings.{IsReadUpTo, line_read, grouped_before}
 use Rattle.obj_text.proofs.read.read_mesh.Goals as goal
 
 -- the line at hand is read, and its faces have a group
-read_on : (c : goal.After-len)
+read_on : (c : goal.After-group_faces-arg-1)
     → let new = c.read_line.new.gathered in
     IsReadUpTo c.args.unit c.args.bytes.now c.next_line.new.self.later new.points.items new.faces.items new.name.now
     (groups_after c.loop-line.groups.keys c.loop-line.group_of.items new.name.now (length new.faces.items))
@@ -14,7 +14,7 @@ read_on c =
     let new = c.read_line.new.gathered in
     line_read c.args.unit c.args.bytes.now c.in-Some.line c.next_line.new.self.words c.next_line.new.self.later
     c.loop-line.lines.later was.points.items new.points.items was.faces.items new.faces.items was.name.now
-    new.name.now c.loop-line.groups.keys c.loop-line.group_of.items (search rules) c.loop-line.invariant (search rules)
+    new.name.now c.loop-line.groups.keys c.loop-line.group_of.items (search rules) c.loop-line.invariant.read (search rules)
 
 pub group_faces-requires-clause-few : goal.group_faces-requires-clause-few
 group_faces-requires-clause-few c = search (rules, (read_on c).few_faces)
@@ -35,5 +35,5 @@ loop-line-preserved c =
     let read = line_read c.args.unit c.args.bytes.now c.in-Some.line c.next_line.new.self.words
     c.next_line.new.self.later c.loop-line.lines.later was.points.items new.points.items was.faces.items
     new.faces.items was.name.now new.name.now c.loop-line.groups.keys c.loop-line.group_of.items
-    (search rules) c.loop-line.invariant (search rules) in
+    (search rules) c.loop-line.invariant.read (search rules) in
     search (rules, read)

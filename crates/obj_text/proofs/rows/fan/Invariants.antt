@@ -5,8 +5,9 @@ use Rattle.obj_text.proofs.rows.fan.Given as goal
 
 abbrev pub invariant-loop-next : goal.invariant-loop-next
 invariant-loop-next l = record {
-  left : fan_left l.vertices l.before false l.fn.faces.items l.first l.second (l.third ∷ l.fn.line.words)
+  left : fan_left l.fn.vertices l.before false l.fn.faces.items l.first l.second (l.third ∷ l.fn.line.words)
       ≡ fan_left l.vertices l.before l.over l.faces.items l.first l.last (l.word ∷ l.line.words);
+  vertices : l.vertices ≡ l.fn.vertices;
   later : l.line.later ≡ l.fn.line.later;
   few : length l.faces.items ≤ MOST_FACES;
 }

@@ -9,8 +9,8 @@ pub returns-then-eq-2-clause-added : goal.returns-then-eq-2-clause-added
 returns-then-eq-2-clause-added c =
     let was = c.args.gathered.now in
     let points = length was.points.items in
-    let given : given_of c.args.unit c.args.vertices points (length was.faces.items) c.args.line.now.words
-    ≡ triangles_of c.args.vertices points (length was.faces.items) c.next_word.new.self.words = search rules in
+    let given : given_of c.args.unit c.args.vertices.now points (length was.faces.items) c.args.line.now.words
+    ≡ triangles_of c.args.vertices.now points (length was.faces.items) c.next_word.new.self.words = search rules in
     subst (λ k. OnOk c.triangles.result (IsAdded k was.points.items was.points.items was.faces.items
     c.triangles.new.faces.items was.name.now was.name.now)) (sym given)
-    (search (rules, triangles_added c.args.vertices points c.next_word.new.self.words was.points.items was.faces.items))
+    (search (rules, triangles_added c.args.vertices.now points c.next_word.new.self.words was.points.items was.faces.items))

@@ -1,7 +1,7 @@
 use Rattle.std.proofs.Common.{◌≡◌, ◌≤◌, length, ◌+◌}
 use Rattle.text_words.specs.Joins.{joined_lines_of}
 use Rattle.obj_text.specs.Texts.{vertices_of}
-use Rattle.obj_text.proofs.read.count_vertices.Given as goal
+use Rattle.obj_text.proofs.vertex_count.count_vertices.Given as goal
 
 abbrev pub invariant-loop-lines : goal.invariant-loop-lines
 invariant-loop-lines l = record {
