@@ -53,7 +53,7 @@ impl<'a> JoinedLines<'a> {
             self.old.later ≡ (record { number = number; words = self.new.words }) ∷ self.new.later) }
     {
         while self.joins {
-            self.joins = self.lines.next_part()?.2;
+            self.joins = self.lines.joined_part()?.2;
             self.number += 1;
         }
         let (_line, front, joins) = self.lines.next_part()?;
@@ -76,7 +76,7 @@ impl<'a> JoinedLines<'a> {
             if !self.joins {
                 return None;
             }
-            let Some((_line, front, joins)) = self.lines.next_part() else {
+            let Some((_line, front, joins)) = self.lines.joined_part() else {
                 self.joins = false;
                 return None;
             };

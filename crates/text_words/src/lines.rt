@@ -45,6 +45,7 @@ impl<'a> Lines<'a> {
     }
 
     /// The next line, what it says, and whether it is joined with the line after it.
+    #[inline(always)]
     pub fn next_part(&mut self) -> Option<(&'a [u8], &'a [u8], bool)>
         ensures { MatchOption result ((self.old ≡ []) × (self.new ≡ [])) (λ part.
             (self.old ≡ part.0.now ∷ self.new) × (part.1.now ≡ said part.0.now) × (part.2 ≡ joins part.0.now)) }
@@ -56,6 +57,15 @@ impl<'a> Lines<'a> {
         let line = self.next()?;
         let (front, joins) = said(line);
         Some((line, front, joins))
+    }
+
+    /// The same, behind a line that is joined with it. Such lines are few, so it stands apart from its callers' code.
+    #[inline(never)]
+    pub(crate) fn joined_part(&mut self) -> Option<(&'a [u8], &'a [u8], bool)>
+        ensures { MatchOption result ((self.old ≡ []) × (self.new ≡ [])) (λ part.
+            (self.old ≡ part.0.now ∷ self.new) × (part.1.now ≡ said part.0.now) × (part.2 ≡ joins part.0.now)) }
+    {
+        self.next_part()
     }
 }
 
