@@ -1,5 +1,5 @@
 -- How many vertices a text can have.
-use Rattle.std.proofs.Common.{◌≡◌, ◌≤◌, ℕ, List, length, arith}
+use Rattle.std.proofs.Common.{◌≤◌, ℕ, List, length, arith}
 use Rattle.std.proofs.lemmas.List.Sums.{count_by-le-length}
 use Rattle.text_words.specs.Joins.{joined_lines_of}
 use Rattle.text_words.proofs.Joining.{length-joined_lines_of}

@@ -1,7 +1,6 @@
-use Rattle.std.proofs.Common.{rules, arith, ◌≡◌, ◌<◌, ◌+◌, ◌*◌, ◌-◌, ◌∷◌, ◌∙◌, ℕ, List, true, drop, length, slice_index_or, ap, cond, [], subst}
+use Rattle.std.proofs.Common.{rules, arith, ◌≡◌, ◌<◌, ◌+◌, ◌*◌, ◌-◌, ◌∷◌, ◌∙◌, ℕ, List, true, drop, length, slice_index_or, subst}
 use Rattle.std.proofs.lemmas.List.{drop_more}
-use Rattle.text_words.specs.Numbers.{is_digit, value_after}
-use Rattle.decimals.specs.Decimals.{digits_of}
+use Rattle.text_words.specs.Numbers.{is_digit}
 use Rattle.decimals.specs.Rounding.{HasRoom}
 use Rattle.decimals.proofs.Runs.{digits_next, past_next}
 use Rattle.decimals.proofs.Room.{room_next, room_few}

@@ -1,10 +1,8 @@
-use Rattle.std.proofs.Common.{rules, arith, ◌≡◌, ◌≤◌, ◌+◌, ◌-◌, length, [], ap, sym, ◌∙◌}
-use Rattle.text_words.specs.Numbers.{value_after}
-use Rattle.decimals.specs.Decimals.{past_sign, digits_of, past_digits}
+use Rattle.std.proofs.Common.{rules, arith, ◌≡◌, ◌-◌, length, ap}
+use Rattle.decimals.specs.Decimals.{past_sign}
 use Rattle.decimals.proofs.Runs.{digits_within, digits_count}
 use Rattle.decimals.proofs.Room.{room_first, room_few, sign_within}
 use Rattle.decimals.proofs.Words.{parts_read}
-use Rattle.decimals.specs.declared.limits.TheConstants.{FEW}
 use Rattle.decimals.proofs.short.short_parts.Goals as goal
 
 pub short_digits-whole-requires : goal.short_digits-whole-requires

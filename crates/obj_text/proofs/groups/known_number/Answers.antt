@@ -1,7 +1,4 @@
-use Rattle.std.proofs.Common.{rules, ◌≡◌}
-use Rattle.std.specs.List.{position_or_len}
-use Rattle.std.specs.Str.{bytes_eq}
-use Rattle.obj_text.specs.Groups.{with_name}
+use Rattle.std.proofs.Common.{rules}
 use Rattle.obj_text.proofs.KnownGroups.{group_there}
 use Rattle.obj_text.proofs.groups.known_number.Goals as goal
 

@@ -1,4 +1,4 @@
-use Rattle.std.proofs.Common.{rules, arith}
+use Rattle.std.proofs.Common.{arith}
 use Rattle.obj_text.proofs.Counts.{vertices_few}
 use Rattle.obj_text.proofs.vertex_count.VertexCount.new.Goals as goal
 
