@@ -6,4 +6,5 @@ pub mod KnownGroups
 pub mod Counts
 pub mod LineGroups
 pub mod Readings
+pub mod Outcomes
 mod Examples

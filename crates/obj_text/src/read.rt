@@ -21,6 +21,7 @@ use text_words::JoinedLines;
 /// Lines `v`, `f`, `g` and `o` are read, and all others passed over; `docs/OBJ.md` and `specs/Rows` have their forms.
 /// Vertices count from 1 in the text, and a face may stand before those that it names. `MeshFault::Line` names the
 /// first line that has a fault, counted from 1, and the first of its faults.
+#[tactic(auto, using(crate::proofs::Outcomes::line_faulty, crate::proofs::Outcomes::all_read, crate::proofs::Outcomes::read_is_mesh))]
 pub fn read_mesh(alloc: Global, bytes: &[u8], unit: u32) -> Result<Mesh, MeshFault>
     requires few { length bytes.now ≤ MOST_BYTES }
     requires least_unit { 1 ≤ unit }
