@@ -6,7 +6,8 @@ use Rattle.fixed_box.specs.declared.shapes.Tri.{Tri}
 use Rattle.segment_hit.proofs.Integers.{parts, same_diff, to_diff, cancel, linear, neg-times, times-neg}
 use Rattle.segment_hit.proofs.Combinations.{Combines, cramer, time_is, second_is, third_is}
 use Rattle.segment_hit.specs.Vectors.{from_to}
-use Rattle.segment_hit.specs.Determinants.{IsInside, AreDeterminantsOf, AreNegated, whole_of}
+use Rattle.segment_hit.specs.HitOf.{Shares, whole_of, shares_of, negated}
+use Rattle.segment_hit.specs.Determinants.{IsInside, AreDeterminantsOf, AreNegated, shares}
 use Rattle.segment_hit.specs.Meeting.{Weighs}
 use Rattle.segment_hit.specs.declared.vectors.Determinants.{Determinants}
 
@@ -47,7 +48,7 @@ divides p q t T D u v w h = record {
 }
 
 -- and the determinants, where they pass the tests, are weights that balance
-pub weighs : (p q : Point) (t : Tri) (m : Determinants) → Divides p q t m.whole m.time m.second m.third → IsInside m
+pub weighs : (p q : Point) (t : Tri) (m : Shares) → Divides p q t m.whole m.time m.second m.third → IsInside m
     → Weighs p q t m.time m.whole (m.whole -ℤ m.second -ℤ m.third) m.second m.third
 weighs p q t m h i =
     let T = m.time in
@@ -66,24 +67,25 @@ weighs p q t m h i =
     }
 
 -- the numbers of m are such a combination, and those of any other are in the same ratio
-pub record Solves (p q : Point) (t : Tri) (m : Determinants) : Type 0 where
+pub record Solves (p q : Point) (t : Tri) (m : Shares) : Type 0 where
   pub combines : Divides p q t m.whole m.time m.second m.third
   pub time_is : (D T v w : ℤ) → Divides p q t D T v w → T *ℤ m.whole ≡ D *ℤ m.time
   pub second_is : (D T v w : ℤ) → Divides p q t D T v w → v *ℤ m.whole ≡ D *ℤ m.second
   pub third_is : (D T v w : ℤ) → Divides p q t D T v w → w *ℤ m.whole ≡ D *ℤ m.third
 
--- the determinants are such
-pub determinants_solve : (p q : Point) (t : Tri) (m : Determinants) → AreDeterminantsOf p q t m → Solves p q t m
-determinants_solve p q t m e =
+-- the shares of the segment and the triangle are such
+pub shares_solve : (p q : Point) (t : Tri) → Solves p q t (shares_of p q t)
+unfolding shares_of
+shares_solve p q t =
     let r = from_to p t.a in
     let d = from_to p q in
     let f = from_to t.a t.b in
     let g = from_to t.a t.c in
     record {
-      combines = rw (e.whole, e.time, e.second, e.third) (cramer r d f g);
-      time_is = λ D T v w h. rw (e.whole, e.time) (time_is D T v w r d f g h);
-      second_is = λ D T v w h. rw (e.whole, e.second) (second_is D T v w r d f g h);
-      third_is = λ D T v w h. rw (e.whole, e.third) (third_is D T v w r d f g h);
+      combines = cramer r d f g;
+      time_is = λ D T v w h. time_is D T v w r d f g h;
+      second_is = λ D T v w h. second_is D T v w r d f g h;
+      third_is = λ D T v w h. third_is D T v w r d f g h;
     }
 
 -- on one axis: a combination, negated
@@ -96,26 +98,37 @@ both_neg : (T N D x : ℤ) → T *ℤ N ≡ D *ℤ x → T *ℤ neg_ℤ N ≡ D 
 both_neg T N D x e = omega (arith, linear, times-neg T N, times-neg D x)
 
 -- and so are their negations
-pub negated_solve : (p q : Point) (t : Tri) (m n : Determinants) → AreNegated m n → Solves p q t m → Solves p q t n
-negated_solve p q t m n e h = record {
-  combines = rw (e.whole, e.time, e.second, e.third) (record {
+pub negated_solve : (p q : Point) (t : Tri) (m : Shares) → Solves p q t m → Solves p q t (negated m)
+unfolding negated
+negated_solve p q t m h = record {
+  combines = record {
     on_x = axis_neg m.whole m.time m.second m.third _ _ _ _ h.combines.on_x;
     on_y = axis_neg m.whole m.time m.second m.third _ _ _ _ h.combines.on_y;
     on_z = axis_neg m.whole m.time m.second m.third _ _ _ _ h.combines.on_z;
-  });
-  time_is = λ D T v w k. rw (e.whole, e.time) (both_neg T m.whole D m.time (h.time_is D T v w k));
-  second_is = λ D T v w k. rw (e.whole, e.second) (both_neg v m.whole D m.second (h.second_is D T v w k));
-  third_is = λ D T v w k. rw (e.whole, e.third) (both_neg w m.whole D m.third (h.third_is D T v w k));
+  };
+  time_is = λ D T v w k. both_neg T m.whole D m.time (h.time_is D T v w k);
+  second_is = λ D T v w k. both_neg v m.whole D m.second (h.second_is D T v w k);
+  third_is = λ D T v w k. both_neg w m.whole D m.third (h.third_is D T v w k);
 }
+
+-- what is measured is the shares
+measured : (p q : Point) (t : Tri) (m : Determinants) → AreDeterminantsOf p q t m → shares m ≡ shares_of p q t
+unfolding shares_of
+measured p q t m e = λ i. record { whole = e.whole i; time = e.time i; second = e.second i; third = e.third i }
+
+-- and negations are their negations
+turned : (m n : Determinants) → AreNegated m n → shares n ≡ negated (shares m)
+unfolding negated
+turned m n e = λ i. record { whole = e.whole i; time = e.time i; second = e.second i; third = e.third i }
 
 -- so are the determinants with either sign
 pub faced_solve : (p q : Point) (t : Tri) (m n : Determinants) → AreDeterminantsOf p q t m → (n ≡ m) ⊎ AreNegated m n
-    → Solves p q t n
+    → Solves p q t (shares n)
 faced_solve p q t m n d h =
-    let s = determinants_solve p q t m d in
+    let s : Solves p q t (shares m) = subst (Solves p q t) (sym (measured p q t m d)) (shares_solve p q t) in
     elim h [
-      | inl e ↦ subst (Solves p q t) (sym e) s
-      | inr k ↦ negated_solve p q t m n k s
+      | inl e ↦ subst (λ (x : Determinants). Solves p q t (shares x)) (sym e) s
+      | inr k ↦ subst (Solves p q t) (sym (turned m n k)) (negated_solve p q t (shares m) s)
     ]
 
 -- where a whole of either sign is above 0, the segment is not parallel to the plane

@@ -14,7 +14,7 @@ use Rattle.segment_hit.specs.Meeting.{MeetsAt, IsHit, IsFraction}
 use Rattle.segment_hit.specs.declared.fraction.Frac.{Frac}
 
 -- a fraction that is T/D and one that is an equal U/E are the same
-same_of_equal : (f g : Frac) (T D U E : ℤ) → pos 0 <ℤ D → pos 0 <ℤ E → T *ℤ E ≡ U *ℤ D → IsFraction f T D
+pub same_of_equal : (f g : Frac) (T D U E : ℤ) → pos 0 <ℤ D → pos 0 <ℤ E → T *ℤ E ≡ U *ℤ D → IsFraction f T D
     → IsFraction g U E → f ≡ g
 same_of_equal f g T D U E d e s a b =
     same_fields f g (same_fraction f.num f.den D T g.num g.den (nonzero D d) a

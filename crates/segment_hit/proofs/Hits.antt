@@ -8,13 +8,13 @@ use Rattle.segment_hit.proofs.Signs.{not_negative, at_most, cancel_nonzero}
 use Rattle.segment_hit.proofs.Combinations.{time_is}
 use Rattle.segment_hit.proofs.Divisions.{Solves, divides, weighs}
 use Rattle.segment_hit.specs.Vectors.{from_to}
-use Rattle.segment_hit.specs.Determinants.{IsInside, whole_of, time_of}
+use Rattle.segment_hit.specs.HitOf.{Shares, whole_of, time_of}
+use Rattle.segment_hit.specs.Determinants.{IsInside}
 use Rattle.segment_hit.specs.Meeting.{MeetsAt, IsHit, IsFraction}
-use Rattle.segment_hit.specs.declared.vectors.Determinants.{Determinants}
 use Rattle.segment_hit.specs.declared.fraction.Frac.{Frac}
 
 -- determinants that pass the tests are a meeting
-pub meets : (p q : Point) (t : Tri) (m : Determinants) → whole_of p q t ≢ pos 0 → Solves p q t m
+pub meets : (p q : Point) (t : Tri) (m : Shares) → whole_of p q t ≢ pos 0 → Solves p q t m
     → pos 0 <ℤ m.whole → IsInside m → MeetsAt p q t m.time m.whole
 meets p q t m c a n i = record {
   crosses = c;
@@ -25,7 +25,7 @@ meets p q t m c a n i = record {
 }
 
 -- numbers in the ratio of the determinants pass the tests as these do
-inside : (D T u v w : ℤ) (m : Determinants) → pos 0 <ℤ D → pos 0 <ℤ m.whole → pos 0 ≤ℤ T → T ≤ℤ D → pos 0 ≤ℤ u
+inside : (D T u v w : ℤ) (m : Shares) → pos 0 <ℤ D → pos 0 <ℤ m.whole → pos 0 ≤ℤ T → T ≤ℤ D → pos 0 ≤ℤ u
     → pos 0 ≤ℤ v → pos 0 ≤ℤ w → u +ℤ v +ℤ w ≡ D →
     T *ℤ m.whole ≡ D *ℤ m.time → v *ℤ m.whole ≡ D *ℤ m.second → w *ℤ m.whole ≡ D *ℤ m.third → IsInside m
 inside D T u v w m d n lo hi pu pv pw e et ev ew = record {
@@ -40,7 +40,7 @@ inside D T u v w m d n lo hi pu pv pw e et ev ew = record {
 }
 
 -- where the segment meets the triangle the determinants pass the tests, at that fraction
-pub passes : (p q : Point) (t : Tri) (m : Determinants) (T D : ℤ) → Solves p q t m → pos 0 <ℤ m.whole
+pub passes : (p q : Point) (t : Tri) (m : Shares) (T D : ℤ) → Solves p q t m → pos 0 <ℤ m.whole
     → MeetsAt p q t T D → IsInside m × (T *ℤ m.whole ≡ D *ℤ m.time)
 passes p q t m T D a n h =
     let u = h.weights.0 in
@@ -82,14 +82,14 @@ one_meeting p q t T D U E h k =
     ∙ times_comm D (time_of p t)) (time_of_meeting p q t U E k)
 
 -- what is answered where the tests pass is a hit
-pub hit_found : (p q : Point) (t : Tri) (m : Determinants) (o : Option Frac) → whole_of p q t ≢ pos 0
+pub hit_found : (p q : Point) (t : Tri) (m : Shares) (o : Option Frac) → whole_of p q t ≢ pos 0
     → Solves p q t m → pos 0 <ℤ m.whole →
     IfSome o (λ f. IsInside m × IsFraction f m.time m.whole) → IfSome o (λ f. IsHit p q t f)
 hit_found p q t m None c a n h = h
 hit_found p q t m (Some f) c a n h = (m.time, m.whole, meets p q t m c a n h.0, h.1)
 
 -- and each meeting is at the fraction that is answered
-pub hit_only : (p q : Point) (t : Tri) (m : Determinants) (o : Option Frac) → Solves p q t m
+pub hit_only : (p q : Point) (t : Tri) (m : Shares) (o : Option Frac) → Solves p q t m
     → pos 0 <ℤ m.whole →
     (IsInside m → IsSomeAnd o (λ f. IsFraction f m.time m.whole)) → (T D : ℤ) → MeetsAt p q t T D
     → IsSomeAnd o (λ f. IsFraction f T D)

@@ -7,4 +7,8 @@ pub mod Hits
 pub mod LowestTerms
 pub mod FractionLaws
 pub mod HitFractions
+pub mod IntegerTests
+pub mod GreatestDivisors
+pub mod HitValues
 pub mod BoxesOfMeetings
+mod Examples

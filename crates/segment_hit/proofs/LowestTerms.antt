@@ -44,7 +44,7 @@ pub smaller : (a g : ℕ) → a < 2 ^ 63 → a / g < 2 ^ 63
 smaller a g h = let k : a / g ≤ a = div-le_self a g in omega arith
 
 -- any two numbers have a greatest common divisor: Euclid's steps, at most `fuel` of them
-gcd_below : (fuel a b : ℕ) → b < fuel → (g : ℕ) × IsGcd a b g
+pub gcd_below : (fuel a b : ℕ) → b < fuel → (g : ℕ) × IsGcd a b g
 gcd_below zero a b h = absurd (omega arith)
 gcd_below (suc n) a zero h = (a, IsGcd-from_zero a zero refl)
 gcd_below (suc n) a (suc b) h =

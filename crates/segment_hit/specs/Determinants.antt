@@ -1,8 +1,9 @@
 -- The determinants that `hit` works out, and the tests that it makes on them. No public clause cites this module.
-use Rattle.std.specs.Prelude.{◌≡◌, ℤ, pos, ◌+ℤ◌, ◌≤ℤ◌, neg_ℤ}
+use Rattle.std.specs.Prelude.{◌≡◌, pos, ◌+ℤ◌, ◌≤ℤ◌, neg_ℤ}
 use Rattle.fixed_box.specs.declared.shapes.Point.{Point}
 use Rattle.fixed_box.specs.declared.shapes.Tri.{Tri}
-use Rattle.segment_hit.specs.Vectors.{Vector, from_to, dot, cross, normal}
+use Rattle.segment_hit.specs.Vectors.{Vector}
+use Rattle.segment_hit.specs.HitOf.{Shares, whole_of, time_of, second_of, third_of}
 use Rattle.segment_hit.specs.declared.vectors.Arrow.{Arrow}
 use Rattle.segment_hit.specs.declared.vectors.Area.{Area}
 use Rattle.segment_hit.specs.declared.vectors.Determinants.{Determinants}
@@ -15,21 +16,9 @@ vector_of a = record { x = a.x; y = a.y; z = a.z }
 abbrev pub area_of : Area → Vector
 area_of a = record { x = a.x; y = a.y; z = a.z }
 
--- (q - p) . n: how far the way from p to q crosses the plane
-abbrev pub whole_of : Point → Point → Tri → ℤ
-whole_of p q t = dot (from_to p q) (normal t)
-
--- (a - p) . n: how much of that lies before the plane
-abbrev pub time_of : Point → Tri → ℤ
-time_of p t = dot (from_to p t.a) (normal t)
-
--- (c - a) . ((a - p) x (q - p)): the weight of the second corner
-abbrev pub second_of : Point → Point → Tri → ℤ
-second_of p q t = dot (from_to t.a t.c) (cross (from_to p t.a) (from_to p q))
-
--- -(b - a) . ((a - p) x (q - p)): the weight of the third corner
-abbrev pub third_of : Point → Point → Tri → ℤ
-third_of p q t = neg_ℤ (dot (from_to t.a t.b) (cross (from_to p t.a) (from_to p q)))
+-- the determinants as plain numbers
+abbrev pub shares : Determinants → Shares
+shares m = record { whole = m.whole; time = m.time; second = m.second; third = m.third }
 
 -- m holds the determinants of the segment from p to q and the triangle
 pub record AreDeterminantsOf (p q : Point) (t : Tri) (m : Determinants) : Type 0 where
@@ -46,7 +35,7 @@ pub record AreNegated (m n : Determinants) : Type 0 where
   pub third : n.third ≡ neg_ℤ m.third
 
 -- the time is from 0 to the whole, and no corner has a weight below 0
-pub record IsInside (m : Determinants) : Type 0 where
+pub record IsInside (m : Shares) : Type 0 where
   pub begun : pos 0 ≤ℤ m.time
   pub ended : m.time ≤ℤ m.whole
   pub second_weight : pos 0 ≤ℤ m.second

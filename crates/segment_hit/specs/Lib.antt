@@ -1,4 +1,5 @@
 pub mod Vectors
 pub mod Meeting
 pub mod FractionOrder
+pub mod HitOf
 pub mod Determinants

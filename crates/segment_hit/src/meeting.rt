@@ -1,9 +1,11 @@
 //! The meeting of a segment and a triangle, by Cramer's rule on their determinants (as in Möller and Trumbore, Fast,
 //! Minimum Storage Ray/Triangle Intersection, 1997). Signs decide; the only divisions bring a hit to lowest terms.
 
-ghost use Rattle.std.specs.Prelude.{ℤ, pos, ◌<ℤ◌, IfSome, IsSomeAnd};
+ghost use Rattle.std.specs.Prelude.{◌≡◌, ℤ, pos, ◌<ℤ◌, IfSome, IsSomeAnd};
+ghost use Rattle.std.specs.Option.{option_map};
 ghost use Rattle.fixed_box.specs.World.{InWorld, TriInWorld};
-ghost use Rattle.segment_hit.specs.Determinants.{IsInside};
+ghost use Rattle.segment_hit.specs.HitOf.{ratio_of, hit_of};
+ghost use Rattle.segment_hit.specs.Determinants.{IsInside, shares};
 ghost use Rattle.segment_hit.specs.Meeting.{MeetsAt, IsHit, IsFraction};
 
 use crate::Frac;
@@ -15,8 +17,8 @@ use fixed_box::{Point, Tri};
 /// `time / whole`, where it is from 0 to 1 and no weight is below 0.
 fn settle(m: &Determinants) -> Option<Frac>
     requires above { pos 0 <ℤ m.now.whole }
-    ensures found { IfSome result (λ f. IsInside m.now × IsFraction f m.now.time m.now.whole) }
-    ensures only { IsInside m.now → IsSomeAnd result (λ f. IsFraction f m.now.time m.now.whole) }
+    ensures found { IfSome result (λ f. IsInside (shares m.now) × IsFraction f m.now.time m.now.whole) }
+    ensures only { IsInside (shares m.now) → IsSomeAnd result (λ f. IsFraction f m.now.time m.now.whole) }
 {
     if m.time < 0 || m.whole < m.time || m.second < 0 || m.whole < m.second || m.third < 0 {
         return None;
@@ -40,6 +42,8 @@ pub fn hit(p: Point, q: Point, t: &Tri) -> Option<Frac>
     ensures found { IfSome result (λ f. IsHit p q t.now f) }
     // so it is None only where the segment does not meet the triangle
     ensures only { (T D : ℤ) → MeetsAt p q t.now T D → IsSomeAnd result (λ f. IsFraction f T D) }
+    // both as one equation
+    ensures value { option_map ratio_of result ≡ hit_of p q t.now }
 {
     let measured = facing(measure(&p, &q, t));
     if measured.whole <= 0 {

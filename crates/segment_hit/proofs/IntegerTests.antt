@@ -1,0 +1,24 @@
+-- What comparisons of integers, as tests, say.
+use Rattle.std.proofs.Common.{◌≡◌, ℤ, ◌≤ℤ◌, ◌<ℤ◌, Bool, true, false, not, int_le, int_lt, refl, ap}
+use Rattle.std.specs.Int.Signed.{le_z_yes, lt_z_yes, lt_z_no}
+use Rattle.std.proofs.Math.Dec.{T}
+use Rattle.std.proofs.lemmas.Float.{T_from_true}
+
+is_true : (b : Bool) → T b → b ≡ true
+is_true true t = refl
+is_true false t = absurd t
+
+pub is_at_most : (a b : ℤ) → int_le a b ≡ true → a ≤ℤ b
+is_at_most a b e = le_z_yes (T_from_true (int_le a b) e)
+
+pub at_most_test : (a b : ℤ) → a ≤ℤ b → int_le a b ≡ true
+at_most_test a b h = is_true (int_le a b) h.le
+
+pub is_below : (a b : ℤ) → int_lt a b ≡ true → a <ℤ b
+is_below a b e = lt_z_yes (T_from_true (int_lt a b) e)
+
+pub below_test : (a b : ℤ) → a <ℤ b → int_lt a b ≡ true
+below_test a b h = is_true (int_lt a b) h.lt
+
+pub is_not_below : (a b : ℤ) → int_lt a b ≡ false → b ≤ℤ a
+is_not_below a b e = lt_z_no (T_from_true (not (int_lt a b)) (ap not e))
