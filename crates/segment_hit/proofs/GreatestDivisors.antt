@@ -35,12 +35,16 @@ search_is (suc n) a b g h some le =
       | inr other ↦ search_is n a b g h some (omega arith)
     ])
 
--- from the second number down it is the greatest common divisor
+-- so from the second number down it is what any way to find one finds
+pub greatest_is : (a b g : ℕ) → 0 < b → IsGcd a b g → greatest_from b a b ≡ g
+greatest_is a b g some h = search_is b a b g h (pos_of_dvd_of_pos h.1 some) (le_of_dvd some h.1)
+
+-- and there is one
 greatest_is_gcd : (a b : ℕ) → 0 < b → IsGcd a b (greatest_from b a b)
 greatest_is_gcd a b some =
     let g = gcd_below (b + 1) a b (omega arith) in
     let P : ℕ → Type 0 = λ x. IsGcd a b x in
-    subst P (sym (search_is b a b g.0 g.1 (pos_of_dvd_of_pos g.1.1 some) (le_of_dvd some g.1.1))) g.1
+    subst P (sym (greatest_is a b g.0 some g.1)) g.1
 
 -- a quotient in lowest terms is a fraction
 natural_quotient : (a b : ℕ) → 0 < b → (f : Frac) × (ratio_of f ≡ lowest_terms a b) × IsFraction f (pos a) (pos b)

@@ -104,12 +104,13 @@ miss_or_hit p q t =
           let parts = and_parts above (is_inside m) e in
           let whole : pos 0 <ℤ m.whole = is_below (pos 0) m.whole parts.0 in
           let inside : IsInside m = inside_from_test m parts.1 in
+          let crosses = faced_from_nonzero (shares_of p q t) whole in
           let f = quotient m.time m.whole inside.begun whole in
           inr (
             f.0,
             record {
               value = cond-true (above && is_inside m) some None e ∙ ap Some (sym f.1);
-              hit = (m.time, m.whole, meets p q t m (faced_from_nonzero (shares_of p q t) whole) solves whole inside, f.2);
+              hit = (m.time, m.whole, meets p q t m crosses solves whole inside, f.2);
             },
           )
       | inr e ↦ inl (record {

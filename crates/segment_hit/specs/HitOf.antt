@@ -48,7 +48,12 @@ pub record Shares : Type 0 where
 
 -- the shares of a segment and a triangle
 unfoldable pub shares_of : Point → Point → Tri → Shares
-shares_of p q t = record { whole = whole_of p q t; time = time_of p t; second = second_of p q t; third = third_of p q t }
+shares_of p q t = record {
+  whole = whole_of p q t;
+  time = time_of p t;
+  second = second_of p q t;
+  third = third_of p q t;
+}
 
 -- each with the other sign
 unfoldable pub negated : Shares → Shares
@@ -64,13 +69,13 @@ is_inside m =
     int_le (pos 0) m.time && int_le m.time m.whole && int_le (pos 0) m.second && int_le (pos 0) m.third
     && int_le (m.second +ℤ m.third) m.whole
 
--- time/whole in lowest terms, where the whole is above 0 and the tests pass
+-- time/whole in lowest terms, where the whole is above 0 and the meeting is inside
 unfoldable pub fraction_of : Shares → Option Ratio
 fraction_of m =
     if int_lt (pos 0) m.whole && is_inside m
     then Some (lowest_terms (unsigned_abs m.time) (unsigned_abs m.whole))
     else None
 
--- how much of the way from p to q the segment meets the triangle at, or none
+-- how much of the way from p to q it is to where the segment meets the triangle, or none
 unfoldable pub hit_of : Point → Point → Tri → Option Ratio
 hit_of p q t = fraction_of (faced (shares_of p q t))

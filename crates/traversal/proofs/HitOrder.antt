@@ -4,7 +4,7 @@ use Rattle.std.specs.Bool.{MatchBool}
 use Rattle.std.proofs.lemmas.Bool.{leb-true, leb-false}
 use Rattle.segment_hit.specs.declared.fraction.Frac.{Frac}
 use Rattle.segment_hit.specs.FractionOrder.{frac_cmp, IsAtMost, IsBelow}
-use Rattle.segment_hit.proofs.FractionLaws.{equal_is_same, below_trans, below_at_most, not_below, at_most_total}
+use Rattle.segment_hit.proofs.FractionLaws.{equal_is_same, below_trans, below_at_most, not_below, at_most_total, at_most_antisym, below_or_back}
 use Rattle.traversal.specs.Nearing.{IsNoFarther}
 
 -- a test that decides
@@ -45,3 +45,10 @@ no_farther_at_most h k (inr x) = subst (λ f. IsAtMost h.1 f) x.0 (at_most_refl 
 pub no_farther_number : (n m : ℕ) (f : Frac) → IsNoFarther (n, f) (m, f) → n ≤ m
 no_farther_number n m f (inl x) = absurd (not_below f f x (at_most_refl f))
 no_farther_number n m f (inr x) = x.1
+
+-- a hit at a fraction that is at most another's, and of no higher number, is no farther
+pub at_most_is_no_farther : (h k : ℕ × Frac) → IsAtMost h.1 k.1 → h.0 ≤ k.0 → IsNoFarther h k
+at_most_is_no_farther h k e le = elim (below_or_back h.1 k.1) [
+  | inl below ↦ inl below
+  | inr back ↦ inr (at_most_antisym h.1 k.1 e back, le)
+]

@@ -14,3 +14,5 @@ pub mod BestHit
 pub mod SegmentPruning
 pub mod NearestWalk
 pub mod NearestLaws
+pub mod NearestValues
+mod Examples

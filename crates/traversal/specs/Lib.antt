@@ -1,4 +1,5 @@
 pub mod Overlaps
 pub mod Nearest
+pub mod NearestOf
 pub mod Walks
 pub mod Nearing

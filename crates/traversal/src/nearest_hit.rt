@@ -3,6 +3,7 @@
 
 ghost use Rattle.std.specs.Prelude.{◌≡◌, ℕ, ◌<◌, ◌≤◌, ◌⊎◌, length, map, All, Some, IfSome, IsSome};
 ghost use Rattle.std.specs.Bool.{MatchBool};
+ghost use Rattle.std.specs.Option.{option_map};
 ghost use Rattle.fixed_box.specs.World.{InWorld, TriInWorld};
 ghost use Rattle.fixed_box.specs.Extent.{corner_box, tri_box};
 ghost use Rattle.radix_tree.specs.Ranges.{HasRange};
@@ -11,6 +12,7 @@ ghost use Rattle.radix_tree.specs.Fit.{IsFitted};
 ghost use Rattle.radix_tree.specs.Filling.{IsChild};
 ghost use Rattle.segment_hit.specs.declared.fraction.Frac.{Frac};
 ghost use Rattle.traversal.specs.Nearest.{IsMet, IsNearest};
+ghost use Rattle.traversal.specs.NearestOf.{parts_of, nearest_of};
 ghost use Rattle.traversal.specs.Nearing.{IsNoFarther, StandsIn, Nears};
 
 use crate::steps::{node_meets, root};
@@ -112,6 +114,8 @@ pub fn nearest(t: &Tree, tris: &[Tri], p: Point, q: Point) -> Option<(u32, Frac)
     ensures found { IfSome result (λ h. IsNearest tris.now p q h.0 h.1) }
     // so it is None only where no triangle is met
     ensures only { (number : ℕ) (at : Frac) → IsMet tris.now p q number at → IsSome result }
+    // both as one equation
+    ensures value { option_map parts_of result ≡ nearest_of tris.now p q }
 {
     let around = Box3::of_corners(p, q);
     let child = root(t)?;

@@ -19,7 +19,8 @@ returns-clause-only c =
     let n = c.facing-measured.result in
     let above : pos 0 <ℤ n.whole = omega (arith, ints) in
     let same = c.facing-measured.ensures.same_ratios in
-    hit_only _ _ _ (shares n) _ (faced_solve _ _ _ c.measure.result n c.measure.ensures same) above c.settle.ensures.only
+    let solves = faced_solve _ _ _ c.measure.result n c.measure.ensures same in
+    hit_only _ _ _ (shares n) _ solves above c.settle.ensures.only
 
 pub returns-then-measured-le0-clause-only : goal.returns-then-measured-le0-clause-only
 returns-then-measured-le0-clause-only c T D h =

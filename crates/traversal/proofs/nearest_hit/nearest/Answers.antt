@@ -1,7 +1,13 @@
-use Rattle.std.proofs.Common.{◌-◌, length}
+use Rattle.std.proofs.Common.{◌≡◌, ◌∙◌, ℕ, ◌-◌, length, arith, refl, ap, Option, None}
+use Rattle.std.specs.Option.{option_map}
+use Rattle.std.proofs.lemmas.List.{length-map}
+use Rattle.fixed_box.specs.Extent.{tri_box}
+use Rattle.segment_hit.specs.declared.fraction.Frac.{Frac}
+use Rattle.traversal.specs.NearestOf.{parts_of}
 use Rattle.traversal.specs.Nearing.{StandsIn}
 use Rattle.traversal.proofs.BestHit.{nearest_of_all, some_of_all}
 use Rattle.traversal.proofs.NearestWalk.{all_stand}
+use Rattle.traversal.proofs.NearestValues.{value_is}
 use Rattle.traversal.proofs.nearest_hit.nearest.Goals as goal
 
 pub returns-clause-found : goal.returns-clause-found
@@ -19,3 +25,15 @@ returns-clause-only c =
     let all = all_stand c.args.t.now c.args.tris.now c.args.p c.args.q root.table c.requires.fitted in
     some_of_all c.args.tris.now c.args.p c.args.q (StandsIn keys 0 (length keys - 1)) all c.nearest_below.result
     (c.nearest_below.ensures _ _ root.range)
+
+pub returns-clause-value : goal.returns-clause-value
+returns-clause-value c =
+    value_is c.args.tris.now c.args.p c.args.q c.nearest_below.result (returns-clause-found c) (returns-clause-only c)
+
+pub returns-in_err-child-clause-value : goal.returns-in_err-child-clause-value
+returns-in_err-child-clause-value c =
+    let tris = c.args.tris.now in
+    let empty : length tris ≡ 0 =
+    omega (arith, c.in_err-child.ensures.none refl, c.requires.fitted.count, length-map tris tri_box) in
+    ap (λ (o : Option (ℕ × Frac)). option_map parts_of o) c.from_residual.ensures
+    ∙ value_is tris c.args.p c.args.q None tt (λ n f met. absurd (omega arith))
