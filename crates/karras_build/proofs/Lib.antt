@@ -1,0 +1,3 @@
+pub mod NearerNeighbour
+pub mod SpanLists
+pub mod PartLaws

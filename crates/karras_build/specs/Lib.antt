@@ -1,0 +1,3 @@
+pub mod Spans
+pub mod Reaching
+pub mod Parts

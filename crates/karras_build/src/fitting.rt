@@ -1,0 +1,207 @@
+//! The boxes of all nodes, fitted from the leaves up by fork and join.
+//! Below a node with range [a, b] and split s the nodes of the left half have the numbers a + 1 to s and those of the
+//! right half s + 1 to b - 1, so the list is cut in two and no node is lent twice.
+
+ghost use Rattle.std.specs.Prelude.{◌≡◌, ◌+◌, ◌-◌, ◌<◌, length, IfOk};
+ghost use Rattle.std.specs.Thread.{IsSync};
+ghost use Rattle.fixed_box.specs.Boxes.{IsLeastBox};
+ghost use Rattle.morton_key.specs.Keys.{tri_at, IsLawful};
+ghost use Rattle.radix_tree.specs.Table.{IsTable};
+ghost use Rattle.radix_tree.specs.Fit.{box_of_triangle, boxes_in, IsFitted, table_of};
+ghost use Rattle.karras_build.specs.Spans.{AreSpans};
+ghost use Rattle.karras_build.specs.Parts.{AreInputs, HasRows, IsPart};
+
+use crate::Span;
+use crate::inputs::Inputs;
+use fixed_box::{Box3, union};
+use morton_key::Key;
+use outside::Memory;
+use radix_tree::{Node, Tree};
+use std::alloc::{AllocError, Global};
+use std::thread::{Threads, join_mut};
+
+/// How few nodes a half may have to be fitted in a thread of its own.
+const LEAST_HALF: usize = 8192;
+
+/// The box of the triangle at a position.
+fn box_at(inputs: &Inputs<'_>, position: usize) -> Box3
+    requires inputs { AreInputs inputs.now }
+    requires within { position < length inputs.now.keys.now }
+    ensures { result ≡ box_of_triangle inputs.now.boxes.now (tri_at inputs.now.keys.now position) }
+{
+    inputs.boxes[inputs.keys[position].tri as usize - 1]
+}
+
+/// Fits a left child and all below it, and answers the box round its range. Its number is its last position, and its
+/// part of the list has the numbers behind its first position up to that.
+#[cycle(parts)]
+fn fit_left<R: Threads + Sync>(
+    rt: &R,
+    inputs: &Inputs<'_>,
+    first: usize,
+    last: usize,
+    part: &mut [Node],
+) -> Box3
+    requires inputs { AreInputs inputs.now }
+    requires part { IsPart inputs.now.keys.now last first last (length part.old) }
+    ensures rows { HasRows inputs.now (first + 1) part.new }
+    ensures fit { IsLeastBox (boxes_in inputs.now.boxes.now inputs.now.keys.now first last) result }
+{
+    let Some((own, below)) = part.split_last_mut() else {
+        return box_at(inputs, first);
+    };
+    let split = inputs.spans[last].split as usize;
+    let fit = fit_below(rt, inputs, first, split, last, below);
+    *own = Node {
+        first: first as u32,
+        last: last as u32,
+        split: split as u32,
+        fit,
+    };
+    fit
+}
+
+/// Fits a right child or the root and all below it, and answers the box round its range. Its number is its first
+/// position, and its part of the list has the numbers from that up to the one before its last position.
+#[cycle(parts)]
+fn fit_right<R: Threads + Sync>(
+    rt: &R,
+    inputs: &Inputs<'_>,
+    first: usize,
+    last: usize,
+    part: &mut [Node],
+) -> Box3
+    requires inputs { AreInputs inputs.now }
+    requires part { IsPart inputs.now.keys.now first first last (length part.old) }
+    ensures rows { HasRows inputs.now first part.new }
+    ensures fit { IsLeastBox (boxes_in inputs.now.boxes.now inputs.now.keys.now first last) result }
+{
+    let Some((own, below)) = part.split_first_mut() else {
+        return box_at(inputs, first);
+    };
+    let split = inputs.spans[first].split as usize;
+    let fit = fit_below(rt, inputs, first, split, last, below);
+    *own = Node {
+        first: first as u32,
+        last: last as u32,
+        split: split as u32,
+        fit,
+    };
+    fit
+}
+
+/// Fits all below a node, and answers the box round the node's range.
+#[cycle(parts)]
+fn fit_below<R: Threads + Sync>(
+    rt: &R,
+    inputs: &Inputs<'_>,
+    first: usize,
+    split: usize,
+    last: usize,
+    below: &mut [Node],
+) -> Box3
+    requires inputs { AreInputs inputs.now }
+    requires left { IsPart inputs.now.keys.now split first split (split - first) }
+    requires right { IsPart inputs.now.keys.now (split + 1) (split + 1) last (last - (split + 1)) }
+    requires room { length below.old ≡ last - first - 1 }
+    ensures rows { HasRows inputs.now (first + 1) below.new }
+    ensures fit { IsLeastBox (boxes_in inputs.now.boxes.now inputs.now.keys.now first last) result }
+{
+    let (left, right) = below.split_at_mut(split - first);
+    let (low, high) = fit_halves(rt, inputs, first, split, last, left, right);
+    union(&low, &high)
+}
+
+/// Fits both halves below a node and answers their boxes: at the same time, where both are large enough for that.
+#[cycle(parts)]
+fn fit_halves<R: Threads + Sync>(
+    rt: &R,
+    inputs: &Inputs<'_>,
+    first: usize,
+    split: usize,
+    last: usize,
+    left: &mut [Node],
+    right: &mut [Node],
+) -> (Box3, Box3)
+    requires inputs { AreInputs inputs.now }
+    requires left { IsPart inputs.now.keys.now split first split (length left.old) }
+    requires right { IsPart inputs.now.keys.now (split + 1) (split + 1) last (length right.old) }
+    ensures left_rows { HasRows inputs.now (first + 1) left.new }
+    ensures right_rows { HasRows inputs.now (split + 1) right.new }
+    ensures left_fit { IsLeastBox (boxes_in inputs.now.boxes.now inputs.now.keys.now first split) result.0 }
+    ensures right_fit { IsLeastBox (boxes_in inputs.now.boxes.now inputs.now.keys.now (split + 1) last) result.1 }
+{
+    if left.len().min(right.len()) < LEAST_HALF {
+        let low = fit_left(rt, inputs, first, split, left);
+        let high = fit_right(rt, inputs, split + 1, last, right);
+        return (low, high);
+    }
+    let next = split + 1;
+    let mut low = || -> Box3
+        requires { IsSync R.row × AreInputs inputs.now × IsPart inputs.now.keys.now split first split (length left.now) }
+        ensures { HasRows inputs.entry.now (first + 1) left.exit.now
+            × IsLeastBox (boxes_in inputs.entry.now.boxes.now inputs.entry.now.keys.now first split) result }
+    { fit_left(rt, inputs, first, split, left) };
+    let mut high = || -> Box3
+        requires { IsSync R.row × AreInputs inputs.now × IsPart inputs.now.keys.now next next last (length right.now) }
+        ensures { HasRows inputs.entry.now next right.exit.now
+            × IsLeastBox (boxes_in inputs.entry.now.boxes.now inputs.entry.now.keys.now next last) result }
+    { fit_right(rt, inputs, next, last, right) };
+    join_mut(rt, &mut low, &mut high)
+}
+
+/// The table of the keys, fitted to the boxes.
+fn table<R: Threads + Sync>(
+    rt: &R,
+    alloc: Global,
+    inputs: &Inputs<'_>,
+) -> Result<Vec<Node>, AllocError>
+    requires { AreInputs inputs.now }
+    ensures table { IfOk result (λ nodes. IsTable (record { keys = inputs.now.keys.now; nodes = nodes.items })) }
+    ensures fitted { IfOk result (λ nodes.
+        IsFitted (record { keys = inputs.now.keys.now; nodes = nodes.items }) inputs.now.boxes.now) }
+    ensures value { IfOk result (λ nodes. nodes.items ≡ table_of inputs.now.keys.now inputs.now.boxes.now) }
+{
+    if inputs.keys.len() < 2 {
+        return Ok(Vec::new(alloc));
+    }
+    let blank = Node {
+        first: 0,
+        last: 0,
+        split: 0,
+        fit: inputs.boxes[0],
+    };
+    let last = inputs.keys.len() - 1;
+    let mut nodes = vec![in alloc; blank; last]?;
+    let _whole = fit_right(rt, inputs, 0, last, &mut nodes);
+    Ok(nodes)
+}
+
+/// The tree of the keys, fitted to the boxes: `boxes[t - 1]` is the box of triangle `t`.
+///
+/// The spans are those that `spans` answers for the keys. Nothing is searched: it takes time in proportion to the keys,
+/// shared among threads where both halves below a node are large, and memory for one list of nodes. After `Memory` the
+/// keys are dropped.
+pub fn fit_joined<R: Threads + Sync>(
+    rt: &R,
+    alloc: Global,
+    keys: Vec<Key>,
+    spans: &[Span],
+    boxes: &[Box3],
+) -> Result<Tree, Memory>
+    requires lawful { IsLawful keys.items }
+    requires spans { AreSpans keys.items spans.now }
+    requires count { length boxes.now ≡ length keys.items }
+    ensures keys { IfOk result (λ t. t.keys ≡ keys.items) }
+    ensures table { IfOk result IsTable }
+    ensures fitted { IfOk result (λ t. IsFitted t boxes.now) }
+    ensures value { IfOk result (λ t. t.nodes ≡ table_of keys.items boxes.now) }
+{
+    let inputs = Inputs {
+        keys: &keys,
+        spans,
+        boxes,
+    };
+    let nodes = table(rt, alloc, &inputs).map_err(|_| Memory)?;
+    Ok(Tree::of(keys, nodes))
+}

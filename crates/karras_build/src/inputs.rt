@@ -1,0 +1,13 @@
+//! What a fit reads, lent to every part of it.
+
+use crate::Span;
+use fixed_box::Box3;
+use morton_key::Key;
+
+/// The keys, their spans, and the boxes of the triangles.
+#[derive(Clone, Copy)]
+pub(crate) struct Inputs<'a> {
+    pub(crate) keys: &'a [Key],
+    pub(crate) spans: &'a [Span],
+    pub(crate) boxes: &'a [Box3],
+}

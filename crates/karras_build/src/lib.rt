@@ -1,0 +1,16 @@
+//! A fast build of the radix tree: each node's range and split found alone, and the boxes fitted by fork and join.
+//!
+//! The two neighbours of a number tell which way its range grows, so no node waits for another and each can be found in
+//! any thread. The nodes below a node's two children stand apart in the list, so each half can be lent to a thread.
+#![tactic(auto)]
+
+mod finding;
+mod fitting;
+mod inputs;
+mod ranges;
+mod searching;
+mod ways;
+
+pub use finding::{find, spans};
+pub use fitting::fit_joined;
+pub use ranges::Span;
