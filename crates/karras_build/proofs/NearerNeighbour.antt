@@ -51,10 +51,21 @@ module _ (keys : List Key) (ok : IsLawful keys) where
         | inl lt ↦ absurd (far (omega arith, subst (λ z. before < measure keys a z) (sym next) lt))
       ] in
       is_first keys ok a (a + reach) (omega arith) near.0 (λ z. absurd (omega (arith, x.inner)))
-      (λ _. omega (arith, gap_before, x.is_before, near.1, measure_gap keys ok a (a + reach) (omega (arith, x.inside))
-      near.0))
-      (λ _ more. omega (arith, gap_before, x.is_before, measure_gap keys ok a (suc (a + reach)) (omega arith) more,
-      ends more))
+      (λ _. omega (
+        arith,
+        gap_before,
+        x.is_before,
+        near.1,
+        measure_gap keys ok a (a + reach) (omega (arith, x.inside))
+            near.0,
+      ))
+      (λ _ more. omega (
+        arith,
+        gap_before,
+        x.is_before,
+        measure_gap keys ok a (suc (a + reach)) (omega arith) more,
+        ends more,
+      ))
 
   -- and else the last
   pub down_found : (a before after reach : ℕ) → Neighbours a before after → after ≤ before → 0 < reach →
@@ -68,7 +79,19 @@ module _ (keys : List Key) (ok : IsLawful keys) where
         | inl lt ↦ absurd (far (omega arith, subst (λ z. after < measure keys z a) (sym next) lt))
       ] in
       is_last keys ok (a - reach) a (omega (arith, x.inner)) x.inside
-      (omega (arith, gap_after, x.is_after, near.1, measure_gap keys ok (a - reach) a (omega (arith, x.inside))
-      (omega (arith, x.inside))))
-      (λ more. omega (arith, gap_after, x.is_after, measure_gap keys ok (a - reach - 1) a (omega (arith, x.inside))
-      (omega (arith, x.inside)), ends more))
+      (omega (
+        arith,
+        gap_after,
+        x.is_after,
+        near.1,
+        measure_gap keys ok (a - reach) a (omega (arith, x.inside))
+            (omega (arith, x.inside)),
+      ))
+      (λ more. omega (
+        arith,
+        gap_after,
+        x.is_after,
+        measure_gap keys ok (a - reach - 1) a (omega (arith, x.inside))
+            (omega (arith, x.inside)),
+        ends more,
+      ))

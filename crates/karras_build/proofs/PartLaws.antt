@@ -4,15 +4,16 @@ use Rattle.std.proofs.Math.Seq.{get_or-append_right}
 use Rattle.std.proofs.lemmas.Bool.{cases_eq, cases_lt}
 use Rattle.fixed_box.specs.declared.shapes.Box3.{Box3}
 use Rattle.fixed_box.specs.Boxes.{IsLeastBox}
+use Rattle.morton_key.specs.Keys.{tri_at}
 use Rattle.radix_tree.specs.declared.nodes.Node.{Node}
 use Rattle.radix_tree.specs.Ranges.{IsNode}
 use Rattle.radix_tree.specs.Split.{split}
 use Rattle.radix_tree.specs.Table.{node_at}
-use Rattle.radix_tree.specs.Fit.{boxes_in}
+use Rattle.radix_tree.specs.Fit.{box_of_triangle, boxes_in}
 use Rattle.radix_tree.specs.Filling.{IsFullRow, HasRow}
 use Rattle.radix_tree.proofs.NumberLaws.{one_range}
 use Rattle.radix_tree.proofs.NodeLaws.{node_within, node_below, split_low, split_high, left_node, right_node, root_node}
-use Rattle.radix_tree.proofs.FitLaws.{least_of_children}
+use Rattle.radix_tree.proofs.FitLaws.{least_of_children, least_of_leaf_at}
 use Rattle.radix_tree.proofs.FillLaws.{IsFull, full_from_rows}
 use Rattle.karras_build.specs.declared.inputs.Inputs.{Inputs}
 use Rattle.karras_build.specs.Spans.{span_at}
@@ -50,41 +51,58 @@ module _ (x : Inputs) (ok : AreInputs x) where
   pub part_node : {i a b room : ℕ} → IsPart x.keys.now i a b room → 0 < room → IsNode x.keys.now i a b
   part_node p some = p.node (omega (arith, p.room))
 
-  -- the split that is read is the node's
+  -- its number is one of those of the spans
+  pub span_inside : {i a b room : ℕ} → IsPart x.keys.now i a b room → 0 < room → i < length x.spans.now
+  span_inside p some = omega (arith, node_below x.keys.now ok.lawful (part_node p some), ok.spans.count)
+
+  -- and the split that is read there is that of its range
   pub split_read : {i a b : ℕ} → IsNode x.keys.now i a b → (span_at x.spans.now i).split ≡ split x.keys.now a b
   split_read {i} {a} {b} d =
       let keys = x.keys.now in
-      let inside : i < length x.spans.now = omega (arith, node_below keys ok.lawful d, ok.spans.count) in
-      let r = ok.spans.each i inside in
+      let r = ok.spans.each i (omega (arith, node_below keys ok.lawful d, ok.spans.count)) in
       let same = one_range keys ok.lawful r.range d in
       r.part ∙ (ap (λ z. split keys z (span_at x.spans.now i).last) same.0 ∙ ap (λ z. split keys a z) same.1)
 
-  -- a node's number is one of those of the spans
-  pub span_inside : {i a b : ℕ} → IsNode x.keys.now i a b → i < length x.spans.now
-  span_inside d = omega (arith, node_below x.keys.now ok.lawful d, ok.spans.count)
-
   -- the two parts below a node
-  pub left_part : {i a b : ℕ} → IsNode x.keys.now i a b → (s : ℕ) → s ≡ split x.keys.now a b →
-      IsPart x.keys.now s a s (s - a)
-  left_part {i} {a} {b} d s e =
+  pub left_below : {i a b room : ℕ} → IsPart x.keys.now i a b room → 0 < room →
+      let s : ℕ = (span_at x.spans.now i).split in IsPart x.keys.now s a s (s - a)
+  left_below p some =
       let keys = x.keys.now in
+      let d = part_node p some in
       record {
-        order = omega (arith, e, split_low keys ok.lawful d);
-        within = omega (arith, e, split_high keys ok.lawful d, node_within keys ok.lawful d);
-        node = λ lt. left_node keys ok.lawful d s e lt;
+        order = omega (arith, split_read d, split_low keys ok.lawful d);
+        within = omega (arith, split_read d, split_high keys ok.lawful d, node_within keys ok.lawful d);
+        node = λ lt. left_node keys ok.lawful d _ (split_read d) lt;
         room = refl;
       }
 
-  pub right_part : {i a b : ℕ} → IsNode x.keys.now i a b → (s : ℕ) → s ≡ split x.keys.now a b →
-      IsPart x.keys.now (s + 1) (s + 1) b (b - (s + 1))
-  right_part {i} {a} {b} d s e =
+  pub right_below : {i a b room : ℕ} → IsPart x.keys.now i a b room → 0 < room →
+      let s : ℕ = (span_at x.spans.now i).split in IsPart x.keys.now (s + 1) (s + 1) b (b - (s + 1))
+  right_below p some =
       let keys = x.keys.now in
+      let d = part_node p some in
       record {
-        order = omega (arith, e, split_high keys ok.lawful d);
-        within = node_within keys ok.lawful d;
-        node = λ lt. right_node keys ok.lawful d s e lt;
+        order = omega (arith, split_read d, split_high keys ok.lawful d);
+        within = p.within;
+        node = λ lt. right_node keys ok.lawful d _ (split_read d) lt;
         room = refl;
       }
+
+  -- the node's own row
+  pub own_row : {i a b room : ℕ} → IsPart x.keys.now i a b room → 0 < room → (fit : Box3) →
+      IsLeastBox (boxes_in x.boxes.now x.keys.now a b) fit →
+      HasRows x i (record { first = a; last = b; split = (span_at x.spans.now i).split; fit = fit } ∷ [])
+  own_row p some fit least = row_alone _ _ (record {
+    row = record { range = part_node p some; part = split_read (part_node p some) };
+    fit = least;
+  })
+
+  -- a part with no room is a leaf
+  pub leaf_fit : {i a b room : ℕ} → IsPart x.keys.now i a b room → room ≡ 0 → (r : Box3) →
+      r ≡ box_of_triangle x.boxes.now (tri_at x.keys.now a) → IsLeastBox (boxes_in x.boxes.now x.keys.now a b) r
+  leaf_fit {i} {a} {b} p none r e =
+      least_of_leaf_at x.boxes.now x.keys.now a b r (omega (arith, p.order, p.room))
+      (omega (arith, p.order, p.within)) e
 
   -- the box round both halves
   pub both_halves : (a s b : ℕ) (low high whole : Box3) → a ≤ s → s + 1 ≤ b →

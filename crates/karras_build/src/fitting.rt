@@ -91,6 +91,7 @@ fn fit_right<R: Threads + Sync>(
 }
 
 /// Fits all below a node, and answers the box round the node's range.
+#[inline(always)]
 #[cycle(parts)]
 fn fit_below<R: Threads + Sync>(
     rt: &R,
@@ -113,6 +114,7 @@ fn fit_below<R: Threads + Sync>(
 }
 
 /// Fits both halves below a node and answers their boxes: at the same time, where both are large enough for that.
+#[inline(always)]
 #[cycle(parts)]
 fn fit_halves<R: Threads + Sync>(
     rt: &R,
@@ -131,11 +133,34 @@ fn fit_halves<R: Threads + Sync>(
     ensures left_fit { IsLeastBox (boxes_in inputs.now.boxes.now inputs.now.keys.now first split) result.0 }
     ensures right_fit { IsLeastBox (boxes_in inputs.now.boxes.now inputs.now.keys.now (split + 1) last) result.1 }
 {
-    if left.len().min(right.len()) < LEAST_HALF {
-        let low = fit_left(rt, inputs, first, split, left);
-        let high = fit_right(rt, inputs, split + 1, last, right);
-        return (low, high);
+    if left.len().min(right.len()) >= LEAST_HALF {
+        return fit_joined_halves(rt, inputs, first, split, last, left, right);
     }
+    let low = fit_left(rt, inputs, first, split, left);
+    let high = fit_right(rt, inputs, split + 1, last, right);
+    (low, high)
+}
+
+/// Fits both halves at the same time. It stands apart, so that the recursion in one thread has a small frame.
+#[inline(never)]
+#[cycle(parts)]
+fn fit_joined_halves<R: Threads + Sync>(
+    rt: &R,
+    inputs: &Inputs<'_>,
+    first: usize,
+    split: usize,
+    last: usize,
+    left: &mut [Node],
+    right: &mut [Node],
+) -> (Box3, Box3)
+    requires inputs { AreInputs inputs.now }
+    requires left { IsPart inputs.now.keys.now split first split (length left.old) }
+    requires right { IsPart inputs.now.keys.now (split + 1) (split + 1) last (length right.old) }
+    ensures left_rows { HasRows inputs.now (first + 1) left.new }
+    ensures right_rows { HasRows inputs.now (split + 1) right.new }
+    ensures left_fit { IsLeastBox (boxes_in inputs.now.boxes.now inputs.now.keys.now first split) result.0 }
+    ensures right_fit { IsLeastBox (boxes_in inputs.now.boxes.now inputs.now.keys.now (split + 1) last) result.1 }
+{
     let next = split + 1;
     let mut low = || -> Box3
         requires { IsSync R.row × AreInputs inputs.now × IsPart inputs.now.keys.now split first split (length left.now) }

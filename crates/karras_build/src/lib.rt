@@ -14,3 +14,6 @@ mod ways;
 pub use finding::{find, spans};
 pub use fitting::fit_joined;
 pub use ranges::Span;
+
+#[cfg(test)]
+mod tests;
