@@ -1,7 +1,7 @@
 use Rattle.std.proofs.Common.{◌≡◌, ℕ, suc, ◌+◌, ◌-◌, ◌<◌, ◌≤◌, refl, sym, ap, ◌∙◌, arith, inl, inr, subst, List, [], ◌∷◌, ◌++◌, length}
 use Rattle.std.proofs.Math.ListN.{length-append, get_or-append}
 use Rattle.std.proofs.Math.Seq.{get_or-append_right}
-use Rattle.std.proofs.lemmas.Bool.{cases_eq, cases_lt}
+use Rattle.std.proofs.lemmas.Bool.{cases_lt}
 use Rattle.fixed_box.specs.declared.shapes.Box3.{Box3}
 use Rattle.fixed_box.specs.Boxes.{IsLeastBox}
 use Rattle.morton_key.specs.Keys.{tri_at}
@@ -10,7 +10,7 @@ use Rattle.radix_tree.specs.Ranges.{IsNode}
 use Rattle.radix_tree.specs.Split.{split}
 use Rattle.radix_tree.specs.Table.{node_at}
 use Rattle.radix_tree.specs.Fit.{box_of_triangle, boxes_in}
-use Rattle.radix_tree.specs.Filling.{IsFullRow, HasRow}
+use Rattle.radix_tree.specs.Filling.{IsFullRow}
 use Rattle.radix_tree.proofs.NumberLaws.{one_range}
 use Rattle.radix_tree.proofs.NodeLaws.{node_within, node_below, split_low, split_high, left_node, right_node, root_node}
 use Rattle.radix_tree.proofs.FitLaws.{least_of_children, least_of_leaf_at}

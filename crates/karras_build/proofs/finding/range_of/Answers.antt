@@ -1,4 +1,4 @@
-use Rattle.std.proofs.Common.{◌≡◌, ◌-◌, length, arith, subst, sym, refl}
+use Rattle.std.proofs.Common.{◌-◌, length, arith, subst, sym, refl}
 use Rattle.radix_tree.specs.Ranges.{IsNode}
 use Rattle.radix_tree.proofs.NodeLaws.{root_node}
 use Rattle.karras_build.proofs.NearerNeighbour.{neighbours_of, other_is_nearer, up_found, down_found}
