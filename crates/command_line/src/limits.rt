@@ -1,0 +1,20 @@
+//! The numbers that bound what is accepted.
+
+/// The most digits of a number, leading zeros counted.
+pub const MOST_DIGITS: usize = 6;
+
+/// The least and the greatest number of cells along a side of the large workload.
+pub const LEAST_GRID: u32 = 2;
+
+pub const MOST_GRID: u32 = 512;
+
+/// The most workers, and how many there are where no word says so.
+pub const MOST_WORKERS: u32 = 64;
+
+pub const WORKERS: u32 = 4;
+
+/// Grid steps to one unit of the mesh and of the script, where no word says so.
+pub const UNIT: u32 = 64;
+
+/// No list of more words is accepted: there are at most four items, each of at most two words.
+pub const MOST_WORDS: usize = 8;

@@ -1,0 +1,39 @@
+//! The words of the command line, read.
+
+ghost use Rattle.std.specs.Prelude.{◌≡◌, Some, None, IfOk, IfErr, length};
+ghost use Rattle.command_line.specs.Items.{texts_of};
+ghost use Rattle.command_line.specs.Plans.{plan_of, IsInBounds};
+
+use crate::fault::WordsFault;
+use crate::items::items_of;
+use crate::limits::MOST_WORDS;
+use crate::plan::Plan;
+use crate::rules::item_plan;
+use std::alloc::Global;
+
+/// The plan that the words behind the program's name make.
+///
+/// From left to right each word, or two, is an item: the MESH word, which is not empty and does not begin with `-`;
+/// `--name=value`; or `--name` and a value, which does not begin with `-`. A word `--name` always takes the next word as
+/// its value. Items may stand in any order, each name at most once. Exactly one MESH word stands.
+///
+/// | name | value | default |
+/// |---|---|---|
+/// | `workers` | 1 to 6 digits, 1 to 64 | 4 |
+/// | `unit` | 1 to 6 digits, 1 to `fixed_box::UNIT_MAX` | 64 |
+/// | `build` | `karras` | `karras` |
+///
+/// Every other list is refused as `Usage`, also one with `--grid` or `--build apetrei`, which ask for what is not there
+/// yet. The plan holds the place of the MESH word, counted from 0. It takes memory for at most eight items at a time.
+pub fn read_words(alloc: Global, words: &[String]) -> Result<Plan, WordsFault>
+    ensures plan { IfOk result (λ plan. plan_of (texts_of words.now) ≡ Some plan) }
+    ensures usage { IfErr result (λ fault. fault ≡ WordsFault.Usage → plan_of (texts_of words.now) ≡ None) }
+    // its place is one of a word, its numbers are in their ranges
+    ensures bounds { IfOk result (IsInBounds (length words.now)) }
+{
+    if MOST_WORDS < words.len() {
+        return Err(WordsFault::Usage);
+    }
+    let items = items_of(alloc, words)?;
+    item_plan(alloc, &items)
+}
