@@ -1,0 +1,389 @@
+#!/usr/bin/env python3
+"""The answers of `world`, by another way: a plain program that follows the documents word for word and is in no hurry.
+
+    python3 bench/oracle.py MESH [--unit U] < SCRIPT
+
+It writes what `world MESH --unit U < SCRIPT` is to write, and ends with the same status. Nothing of the Rattle code is
+used or imitated: number words become exact fractions, the tree is the recursion from the top, a box query tests the box
+of every triangle, and a segment query solves a linear equation, in fractions, with every triangle. It stands on Python's
+standard library alone. Meshes of some thousand triangles are its measure.
+
+`docs/OBJ.md` says how a mesh is read, `docs/WORDS.md` what a script line asks and how it is answered.
+`bench/against_oracle.py` compares the program with it.
+"""
+
+import argparse
+import math
+import re
+import sys
+from fractions import Fraction
+
+# ------------------------------------------------------------------------------------------------ limits
+
+UNIT = 64                       # grid steps to a unit, where none is said
+UNIT_MOST = 65_536
+WORLD = range(-131_072, 131_072)
+REACH = range(-2_147_483_647, 2_147_483_648)
+VERTICES_MOST = 1_048_576
+TRIANGLES_MOST = 1_048_576
+MESH_MOST = 268_435_456         # bytes
+SCRIPT_MOST = 16_777_216        # bytes
+LINE_MOST = 1_000               # bytes of a script line without its line feed
+DIGITS_MOST = 24                # from the first that is not 0 on
+CAP = 2**40                     # what a number that is far too large counts as
+
+DONE, USAGE, MESH_REFUSED, READ_FAULT, WRITE_FAULT, MEMORY, LINES_REFUSED = range(7)
+
+WORDS = {b"box": 6, b"seg": 6, b"node": 1, b"groups": 0, b"work": 0}    # and how many words follow each
+
+sys.set_int_max_str_digits(0)
+
+
+class Refused(Exception):
+    """A line is refused, for the reason that is written."""
+
+
+# ------------------------------------------------------------------------------------------------ lines, words, numbers
+
+def lines_of(text):
+    """The lines of a text, without their line feeds. A text that ends with a line feed has no further line."""
+    lines = text.split(b"\n")
+    if lines[-1] == b"":
+        lines.pop()
+    return lines
+
+
+def words_of(line):
+    """The words of a line: longest runs of bytes other than tab, vertical tab, form feed, carriage return and space."""
+    return re.findall(rb"[^\t\v\f\r ]+", line)
+
+
+DECIMAL = re.compile(rb"([+-]?)([0-9]*)(?:\.([0-9]*))?(?:[eE]([+-]?[0-9]+))?")
+
+
+def grid_value(word, unit):
+    """The grid steps of a decimal: the nearest whole number to the value times the unit, halves going up."""
+    form = DECIMAL.fullmatch(word)
+    if not form or not form[2] + (form[3] or b""):
+        raise Refused("not a number")
+    sign, whole, after, exponent = form[1], form[2], form[3] or b"", int(form[4] or b"0")
+    digits = (whole + after).lstrip(b"0")
+    if len(digits) > DIGITS_MOST:
+        raise Refused("number too long")
+    if not digits:
+        return 0
+    places = exponent - len(after)                      # the value is digits * 10 ** places
+    places = min(max(places, -1_000), 1_000) if abs(len(digits) + places) > 500 else places
+    value = int(digits) * Fraction(10) ** places        # far below a step, or far past the cap, where it was brought in
+    value = -value if sign == b"-" else value
+    return min(max(math.floor(value * unit + Fraction(1, 2)), -CAP), CAP)
+
+
+def whole_value(word):
+    """The value of a word of digits alone."""
+    if not re.fullmatch(rb"[0-9]+", word):
+        raise Refused("not a number")
+    digits = word.lstrip(b"0")
+    if len(digits) > DIGITS_MOST:
+        raise Refused("number too long")
+    return min(int(digits or b"0"), CAP)
+
+
+# ------------------------------------------------------------------------------------------------ a mesh text
+
+def joined_lines(text):
+    """The lines of a mesh text, each with its number: comments dropped, lines that go on joined."""
+    lines = lines_of(text)
+    joined, at = [], 0
+    while at < len(lines):
+        number, whole, goes_on = at + 1, b"", True
+        while goes_on and at < len(lines):
+            line, goes_on = lines[at], False
+            at += 1
+            if b"#" in line:
+                line = line[:line.index(b"#")]
+            else:
+                bare = line[:-1] if line.endswith(b"\r") else line
+                if bare.endswith(b"\\"):
+                    line, goes_on = bare[:-1] + b" ", True
+            whole += line
+        joined.append((number, whole))
+    return joined
+
+
+class Mesh:
+    """Points in grid steps, triangles by the places of their corners, and the name of each triangle's group."""
+
+    def __init__(self):
+        self.points, self.faces, self.names = [], [], []
+
+
+REFERENCE = re.compile(rb"([+-]?[0-9]+)(?:/(?:[+-]?[0-9]+)?){0,2}")
+
+
+def read_mesh(text, unit):
+    """The mesh of the text; or the number and the reason of its first faulty line."""
+    rows = [(number, words_of(line)) for number, line in joined_lines(text)]
+    all_vertices = sum(words[:1] == [b"v"] for _, words in rows)
+    mesh, name = Mesh(), b"default"
+    for number, words in rows:
+        keyword, rest = (words[0], words[1:]) if words else (b"", [])
+        try:
+            if keyword == b"v":
+                mesh.points.append(vertex(rest, unit, len(mesh.points)))
+            elif keyword == b"f":
+                corners = face(rest, all_vertices, len(mesh.points), len(mesh.faces))
+                for second, third in zip(corners[1:], corners[2:]):
+                    mesh.faces.append((corners[0], second, third))
+                    mesh.names.append(name)
+            elif keyword in (b"g", b"o"):
+                name = rest[0] if rest else b"default"
+        except Refused as reason:
+            return None, (number, str(reason))
+    return mesh, None
+
+
+def vertex(words, unit, before):
+    """The point of a `v` line."""
+    if len(words) < 3:
+        raise Refused("too few words")
+    point = []
+    for word in words[:3]:
+        steps = grid_value(word, unit)
+        if steps not in WORLD:
+            raise Refused("outside the world")
+        point.append(steps)
+    if before == VERTICES_MOST:
+        raise Refused("too many vertices")
+    return tuple(point)
+
+
+def face(words, all_vertices, before, triangles):
+    """The places, from 0, of the vertices that an `f` line names."""
+    if len(words) < 3:
+        raise Refused("too few words")
+    corners = []
+    for word in words:
+        form = REFERENCE.fullmatch(word)
+        if not form:
+            raise Refused("bad reference")
+        named = int(form[1])
+        if 1 <= named <= all_vertices:
+            corners.append(named - 1)
+        elif 1 <= -named <= before:
+            corners.append(before + named)
+        else:
+            raise Refused("no such vertex")
+    if triangles + len(corners) - 2 > TRIANGLES_MOST:
+        raise Refused("too many triangles")
+    return corners
+
+
+# ------------------------------------------------------------------------------------------------ boxes and the tree
+
+def least_box(points):
+    """The least box round the points: its lowest and its highest corner."""
+    return tuple(map(min, *points)), tuple(map(max, *points))
+
+
+def union(boxes):
+    return least_box([corner for box in boxes for corner in box])
+
+
+def meet(a, b):
+    """Whether some point is in both boxes, faces and edges among them."""
+    return all(a[0][k] <= b[1][k] and b[0][k] <= a[1][k] for k in range(3))
+
+
+def morton_code(box):
+    """The bits of the box's middle, counted from the world's lowest corner, taken in turn: x, y, z from the highest."""
+    middle = [(low + high) // 2 + 131_072 for low, high in zip(*box)]
+    code = 0
+    for bit in reversed(range(18)):
+        for coordinate in middle:
+            code = 2 * code + (coordinate >> bit & 1)
+    return code
+
+
+class Tree:
+    """The binary tree over the triangles in order: a range is parted where the highest bit in which its codes differ
+    changes. Positions, from 0, are parted alike where all codes of a range are equal."""
+
+    def __init__(self, boxes):
+        self.order = sorted(range(len(boxes)), key=lambda triangle: (morton_code(boxes[triangle]), triangle))
+        self.codes = [morton_code(boxes[triangle]) for triangle in self.order]
+        self.boxes = boxes
+        self.nodes = {}         # by number: first and last position, split, box
+        self.above = {}         # by number: the number of the node above
+        if len(boxes) > 1:
+            self.part(0, len(boxes) - 1, 0, None)
+
+    def part(self, first, last, number, above):
+        """Adds the node over these positions, and all nodes below it. Answers its box."""
+        if first == last:
+            return self.boxes[self.order[first]]
+        keys = self.codes if self.codes[first] != self.codes[last] else range(len(self.codes))
+        bit = (keys[first] ^ keys[last]).bit_length() - 1
+        split = max(at for at in range(first, last + 1) if keys[at] >> bit & 1 == 0)
+        self.above[number] = above
+        box = union([self.part(first, split, split, number), self.part(split + 1, last, split + 1, number)])
+        self.nodes[number] = first, last, split, box
+        return box
+
+    def work(self, query):
+        """How many boxes a walk from the root tests: the root's, and those of both children of each inner node whose box
+        and all boxes above it meet the query."""
+        if len(self.boxes) < 2:
+            return len(self.boxes)
+
+        def reached(number):
+            return number is None or meet(self.nodes[number][3], query) and reached(self.above[number])
+
+        return 1 + 2 * sum(reached(number) for number in self.nodes)
+
+
+# ------------------------------------------------------------------------------------------------ segments
+
+def less(p, q):
+    return tuple(a - b for a, b in zip(p, q))
+
+
+def determinant(a, b, c):
+    return (a[0] * (b[1] * c[2] - b[2] * c[1]) - a[1] * (b[0] * c[2] - b[2] * c[0])
+            + a[2] * (b[0] * c[1] - b[1] * c[0]))
+
+
+def meeting(p, q, triangle):
+    """Where the segment from p to q meets the triangle, as a fraction of the way from p to q; None where it does not, and
+    where it is parallel to the triangle's plane or the triangle has no area.
+
+    It is the solution of p + t (q - p) = a + v (b - a) + w (c - a), three equations for t, v and w, with t from 0 to 1,
+    v and w at least 0, and v + w at most 1. Faces, edges, corners and ends count."""
+    a, b, c = triangle
+    columns = [less(q, p), less(a, b), less(a, c)]
+    right = less(a, p)
+    whole = determinant(*columns)
+    if whole == 0:
+        return None
+    t, v, w = (Fraction(determinant(*columns[:k], right, *columns[k + 1:]), whole) for k in range(3))
+    if not (0 <= t <= 1 and 0 <= v and 0 <= w and v + w <= 1):
+        return None
+    for k in range(3):
+        assert p[k] + t * (q[k] - p[k]) == (1 - v - w) * a[k] + v * b[k] + w * c[k]
+    return t
+
+
+# ------------------------------------------------------------------------------------------------ the world
+
+class World:
+    """A mesh, its tree, and the work of the last box query."""
+
+    def __init__(self, mesh):
+        self.mesh = mesh
+        self.triangles = [tuple(mesh.points[corner] for corner in corners) for corners in mesh.faces]
+        self.boxes = [least_box(triangle) for triangle in self.triangles]
+        self.tree = Tree(self.boxes)
+        self.last_work = 0
+
+    def box(self, query):
+        self.last_work = self.tree.work(query)
+        found = [number for number, box in enumerate(self.boxes, 1) if meet(box, query)]
+        return listed("overlaps", found)
+
+    def seg(self, p, q):
+        met = [(t, number) for number, triangle in enumerate(self.triangles, 1)
+               if (t := meeting(p, q, triangle)) is not None]
+        if not met:
+            return "miss"
+        t, number = min(met)
+        return f"hit {number} {t.numerator}/{t.denominator}"
+
+    def node(self, number):
+        if number not in self.tree.nodes:
+            raise Refused("no such node")
+        first, last, split, (low, high) = self.tree.nodes[number]
+        return " ".join(map(str, ("node", number, first, last, split, *low, *high)))
+
+    def groups(self):
+        counts = {}
+        for name in self.mesh.names:
+            counts[name] = counts.get(name, 0) + 1
+        pairs = b"".join(b" %b %d" % (name, count) for name, count in counts.items())
+        return b"groups %d" % len(counts) + (b":" + pairs if counts else b"")
+
+    def work(self):
+        return f"work {self.last_work}"
+
+
+def listed(word, numbers):
+    return f"{word} {len(numbers)}" + (": " + " ".join(map(str, numbers)) if numbers else "")
+
+
+# ------------------------------------------------------------------------------------------------ a script
+
+def answer(world, line, unit, words=WORDS):
+    """The reply to a line, without its line feed; None to a line that asks nothing."""
+    if len(line) > LINE_MOST:
+        raise Refused("line too long")
+    first, *rest = words_of(line) or [b"#"]
+    if first.startswith(b"#"):
+        return None
+    if first not in words:
+        raise Refused("unknown word")
+    if len(rest) != words[first]:
+        raise Refused("wrong count of words")
+    if first == b"node":
+        return world.node(whole_value(rest[0]))
+    if first in (b"box", b"seg"):
+        steps = []
+        for word in rest:
+            steps.append(grid_value(word, unit))
+            if steps[-1] not in (REACH if first == b"box" else WORLD):
+                raise Refused("out of range")
+        p, q = tuple(steps[:3]), tuple(steps[3:])
+        return world.box(least_box([p, q])) if first == b"box" else world.seg(p, q)
+    return world.groups() if first == b"groups" else world.work()
+
+
+def run(mesh_text, script, unit=UNIT, words=WORDS):
+    """What the program writes, and its status. `words` are the script words that are known."""
+    if len(mesh_text) > MESH_MOST:
+        return b"mesh too long\n", MESH_REFUSED
+    mesh, fault = read_mesh(mesh_text, unit)
+    if fault:
+        return b"mesh line %d: %b\n" % (fault[0], fault[1].encode()), MESH_REFUSED
+    world, output, status = World(mesh), [], DONE
+    too_long = len(script) > SCRIPT_MOST
+    if too_long:
+        script = script[:SCRIPT_MOST]
+        script = script[:script.rfind(b"\n") + 1]
+    for number, line in enumerate(lines_of(script), 1):
+        try:
+            reply = answer(world, line, unit, words)
+        except Refused as reason:
+            reply, status = f"line {number}: {reason}", LINES_REFUSED
+        if reply is not None:
+            output.append((reply if isinstance(reply, bytes) else reply.encode()) + b"\n")
+    if too_long:
+        output.append(b"script too long\n")
+        status = LINES_REFUSED
+    return b"".join(output), status
+
+
+def main():
+    parser = argparse.ArgumentParser(description="Answers a script over a mesh as `world` is to answer it.")
+    parser.add_argument("mesh")
+    parser.add_argument("--unit", type=int, default=UNIT, choices=range(1, UNIT_MOST + 1), metavar="1..65536")
+    chosen = parser.parse_args()
+    try:
+        with open(chosen.mesh, "rb") as file:
+            text = file.read()
+    except OSError:
+        sys.exit(READ_FAULT)
+    output, status = run(text, sys.stdin.buffer.read(), chosen.unit)
+    sys.stdout.buffer.write(output)
+    sys.exit(status)
+
+
+if __name__ == "__main__":
+    main()
