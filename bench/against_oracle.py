@@ -1,7 +1,7 @@
 #!/usr/bin/env python3
 """Compares the program with oracle.py, byte for byte: output and exit status.
 
-    python3 bench/against_oracle.py [--program PATH] [--random COUNT] [--seed N] [--all]
+    python3 bench/against_oracle.py [--program PATH] [--files FOLDER] [--random COUNT] [--seed N] [--all]
 
 1. Worked rows, whose replies were found by hand: the oracle is compared with them first, then the program.
 2. Real files of other people's tools, in ../shared/objs: at 64 steps to a unit, at the largest unit at which the file fits,
@@ -20,6 +20,7 @@ import re
 import subprocess
 import sys
 import tempfile
+from decimal import Decimal
 from fractions import Fraction
 
 import oracle
@@ -211,7 +212,7 @@ REAL = {
     "spider.obj": (1368, 19), "wuson.obj": (3732, 1), "max2obj.obj": (2710, 55), "lightwave_66gon.obj": (64, 1),
     "blender261.obj": (256, 1), "utf16.obj": (0, 0), "cornell_box.obj": (34, 7), "fcl_rob.obj": (216, 1),
     "vertex_colours.obj": (12, 6), "no_final_newline.obj": (12, 1),
-    "number_formats.obj": (11, "not a number"), "malformed_refs.obj": (28, "no such vertex"),
+    "number_formats.obj": (11, "not a number"), "malformed_refs.obj": (23, "no such vertex"),
 }
 
 
@@ -225,13 +226,13 @@ def line(word, steps, unit):
 
 
 def script_over(mesh, unit, chance, queries):
-    """A script of boxes and segments over the points of a mesh: small ones, ones that touch, ones through corners."""
+    """A script over a mesh: every node, then boxes and segments, small ones, ones that touch, ones through corners."""
     points = mesh.points or [(0, 0, 0)]
     low, high = oracle.least_box(points + points)
     inside = lambda: tuple(chance.randint(a, b) for a, b in zip(low, high))
     bring_in = lambda point: tuple(min(max(x, -131_072), 131_071) for x in point)
     triangles = len(mesh.faces)
-    out = ["groups\n", "node 0\n", f"node {max(triangles - 2, 0)}\n", f"node {max(triangles - 1, 0)}\n", "work\n"]
+    out = ["groups\n", "work\n"] + [f"node {number}\n" for number in range(triangles + 1)]
     out += [line("box", [*low, *high], unit), "work\n"]
     for _ in range(queries):
         p, q, corner = inside(), inside(), chance.choice(points)
@@ -239,8 +240,6 @@ def script_over(mesh, unit, chance, queries):
         near = tuple(x + chance.randint(-reach, reach) for x in corner)
         out.append(line("box", chance.choice([[*corner, *corner], [*corner, *near], [*near, *corner], [*p, *q]]), unit))
         out.append("work\n")
-        if triangles > 1:
-            out.append(f"node {chance.randrange(triangles - 1)}\n")
         middle = mesh.faces and tuple(sum(mesh.points[c][k] for c in chance.choice(mesh.faces)) // 3 for k in range(3))
         through = bring_in(2 * a - b for a, b in zip(middle or corner, p))
         along = chance.randrange(3)
@@ -258,22 +257,20 @@ def largest_unit(text):
     return min(int(131_071 / largest), oracle.UNIT_MOST) if largest else oracle.UNIT_MOST
 
 
-def compare_real_files(program, chance):
-    if not os.path.isdir(OBJS):
-        print(f"real files: skipped, there is no folder {os.path.normpath(OBJS)}")
+def compare_real_files(program, chance, folder):
+    if not os.path.isdir(folder):
+        print(f"real files: skipped, there is no folder {os.path.normpath(folder)}")
         return
+    print("real files:" if program.has_unit else "real files, at 64 alone, since the program knows no --unit:")
     for name, (count, groups) in REAL.items():
-        with open(os.path.join(OBJS, name), "rb") as file:
+        with open(os.path.join(folder, name), "rb") as file:
             text = file.read()
         refused = isinstance(groups, str)
         if refused:
             units = [oracle.UNIT, 1]
         else:
             units = sorted({oracle.UNIT, 1, largest_unit(text)})
-        for unit in units:
-            if unit != oracle.UNIT and not program.has_unit:
-                print(f"  {name} at {unit}: skipped, the program knows no --unit")
-                continue
+        for unit in units if program.has_unit else [oracle.UNIT]:
             mesh, fault = oracle.read_mesh(text, unit)
             if refused or fault:
                 said = b"mesh line %d: %b\n" % (fault[0], fault[1].encode())
@@ -295,7 +292,10 @@ def compare_real_files(program, chance):
 # ------------------------------------------------------------------------------------------------ random meshes
 
 def spelled(chance, steps, unit):
-    """A word for about that many grid steps, spelled in one of many ways."""
+    """A word for about that many grid steps, spelled in one of many ways; now and then a half step, or just beside it."""
+    if chance.random() < 0.15:
+        half = Decimal(2 * steps + 1) / Decimal(2 * unit)       # exact, since the units here divide a power of ten
+        return f"{half + chance.choice([0, 0, 1, -1]) * Decimal(10) ** -17:f}"
     value = Fraction(steps, unit)
     text = f"{float(value):.{chance.choice([0, 1, 6, 9])}f}"
     return chance.choice([text] * 6 + [f"{float(value):.7e}", f"{float(value):.3E}", text + "e0", text + "00" if "." in text
@@ -404,6 +404,7 @@ def compare_random(program, chance, count):
 def main():
     parser = argparse.ArgumentParser(description="Compares the program with the oracle.")
     parser.add_argument("--program", default=os.path.join(TOP, "crates", "world_main", "out", "world_main"))
+    parser.add_argument("--files", default=OBJS, metavar="FOLDER", help="of the real files, default ../shared/objs")
     parser.add_argument("--random", type=int, default=1000, metavar="COUNT", help="how many random meshes")
     parser.add_argument("--seed", type=int, default=1)
     parser.add_argument("--all", action="store_true", help="fail where the program lacks a word or --unit")
@@ -421,7 +422,7 @@ def main():
             print("NOT KNOWN to this program, and so not compared:", ", ".join(lacks))
         compare_rows(program)
         print(f"worked rows: {program.compared} runs of {len(ROWS)}")
-        compare_real_files(program, random.Random(chosen.seed))
+        compare_real_files(program, random.Random(chosen.seed), chosen.files)
         compare_random(program, random.Random(chosen.seed), chosen.random)
         print(f"{program.compared} runs, {program.lines} script lines, {program.bad} differences")
         sys.exit(1 if program.bad or chosen.all and lacks else 0)

@@ -1,20 +1,22 @@
 #!/usr/bin/env python3
 """One table of the built program beside a yardstick: reading, building, boxes, segments and memory at three sizes.
 
-    python3 bench/table.py [--program PATH] [--runs N] [--workers W]
+    python3 bench/table.py [--program PATH] [--yardstick PATH] [--runs N] [--wall] [--workers W]
 
 The meshes are height fields of 8,192, 131,072 and 524,288 triangles, the scripts 20,000 small boxes and 100,000 segments;
 all are made here, the same at each run. The yardstick is ../shared/bench/yardstick.rs, the same kind of index in plain
 Rust with no proof, at as many threads; rustc builds it. Both programs run in turn, N times (three times as often over the
 smallest mesh), and their replies are compared. Where the yardstick is missing the table has the program's figures alone.
 
-Times are differences of whole runs, the program's and the yardstick's alike, so that starting and ending count in neither:
+Times are processor time, user and system, since others may load the machine; with `--wall`, and with more than one worker,
+they are by the clock. They are differences of whole runs, of the program and of the yardstick alike, so that starting and
+ending count in neither:
 
-- read: a mesh that is refused at its last line, less an empty mesh. (The yardstick refuses nothing: an empty script over
-  the mesh, less an empty mesh, less its own word on how long it built.)
-- build: an empty script over the mesh, less the reading. (The yardstick: its own word.)
+- read: a mesh that is refused at its last line, less an empty mesh.
+- build: an empty script over the mesh, less the reading. (The yardstick refuses nothing. What it takes to open the mesh is
+  parted between the two as it says itself.)
 - boxes, segments: a script of them over the mesh, less the empty script. Reading the lines and writing the replies counts.
-- peak memory: that of the run with the boxes.
+- peak memory: that of a further run with the boxes, as /usr/bin/time tells it; without that program there is no figure.
 
 The figures are medians over all runs. A ratio is the program's time or memory over the yardstick's within one run, and the
 median of these: 2.00 says that the program took twice as long.
@@ -34,6 +36,7 @@ import time
 HERE = os.path.dirname(os.path.abspath(__file__))
 TOP = os.path.dirname(HERE)
 YARDSTICK = os.path.join(TOP, "..", "shared", "bench", "yardstick.rs")
+TIME = "/usr/bin/time"
 SIDES = (64, 256, 512)
 BOXES, SEGMENTS = 20_000, 100_000
 
@@ -89,22 +92,30 @@ def scripts(side):
 class Runner:
     """A program with its options, run over files."""
 
-    def __init__(self, command, environment, folder):
-        self.command, self.environment, self.folder = command, dict(os.environ, **environment), folder
+    def __init__(self, command, environment, folder, wall):
+        self.command, self.environment = command, dict(os.environ, **environment)
+        self.folder, self.wall = folder, wall
 
-    def run(self, mesh, script):
-        """Wall time in seconds, peak memory in MB, replies, and what was written to standard error."""
+    def run(self, mesh, script, before=()):
+        """The time in seconds, replies, and what was written to standard error."""
         out, said = os.path.join(self.folder, "out"), os.path.join(self.folder, "said")
         with open(script, "rb") as source, open(out, "wb") as sink, open(said, "wb") as faults:
             start = time.perf_counter()
-            process = subprocess.Popen([*self.command, mesh], stdin=source, stdout=sink, stderr=faults, env=self.environment)
+            process = subprocess.Popen([*before, *self.command, mesh], stdin=source, stdout=sink, stderr=faults,
+                                       env=self.environment)
             _, status, used = os.wait4(process.pid, 0)
-            wall = time.perf_counter() - start
+            took = time.perf_counter() - start if self.wall else used.ru_utime + used.ru_stime
             process.returncode = os.waitstatus_to_exitcode(status)
         if process.returncode not in (0, 2, 6):
-            sys.exit(f"{' '.join(process.args)} ended with status {process.returncode}")
+            sys.exit(f"{' '.join(self.command)} ended with status {process.returncode}")
         with open(out, "rb") as replies, open(said) as faults:
-            return wall, used.ru_maxrss / 1024, replies.read(), faults.read()
+            return took, replies.read(), faults.read()
+
+    def peak(self, mesh, script):
+        """Peak memory in MB, by a small program: a child of this one would begin with this one's peak."""
+        if not os.path.exists(TIME):
+            return float("nan")
+        return int(self.run(mesh, script, (TIME, "-f", "%M"))[2].split()[-1]) / 1024
 
 
 class Files:
@@ -129,19 +140,21 @@ class Files:
 def figures(runner, files, is_yardstick):
     """Seconds to read, to build, for the boxes and for the segments, and MB; then the replies."""
     begun = runner.run(files.none, files.none)[0]
-    opened, _, _, said = runner.run(files.mesh, files.none)
+    opened, _, said = runner.run(files.mesh, files.none)
     if is_yardstick:
-        build = float(said.split("build ")[1].split()[0]) / 1e3
-        read = opened - begun - build
+        parsing, building = (float(said.split(word)[1].split()[0]) + 1e-3 for word in ("parse ", "build "))
+        read = (opened - begun) * parsing / (parsing + building)
+        build = opened - begun - read
     else:
         refused = runner.run(files.refused, files.none)[0]
         read, build = refused - begun, opened - refused
-    boxed, peak, replies, _ = runner.run(files.mesh, files.boxes)
-    row = {"read": read, "build": build, "boxes": boxed - opened, "memory": peak}
+    boxed, replies, _ = runner.run(files.mesh, files.boxes)
+    row = {"read": read, "build": build, "boxes": boxed - opened}
     if files.segments:
-        shot, _, more, _ = runner.run(files.mesh, files.segments)
+        shot, more, _ = runner.run(files.mesh, files.segments)
         row["segments"], replies = shot - opened, replies + more
-    return {name: max(value, 1e-6) for name, value in row.items()}, replies
+    row = {name: max(value, 1e-6) for name, value in row.items()}
+    return row | {"memory": runner.peak(files.mesh, files.boxes)}, replies
 
 
 def knows(runner, folder, options, line):
@@ -194,23 +207,28 @@ def measure(side, world, yardstick, folder, runs, has_segments):
 def main():
     parser = argparse.ArgumentParser(description="Prints one table of the program beside the yardstick.")
     parser.add_argument("--program", default=os.path.join(TOP, "crates", "world_main", "out", "world_main"))
+    parser.add_argument("--yardstick", default=YARDSTICK, help="its source, default ../shared/bench/yardstick.rs")
     parser.add_argument("--runs", type=int, default=7)
+    parser.add_argument("--wall", action="store_true", help="time by the clock on the wall")
     parser.add_argument("--workers", type=int, default=1, help="threads of both; the program's where it knows the option")
     chosen = parser.parse_args()
     if not os.path.exists(chosen.program):
         sys.exit(f"there is no program {chosen.program}: build it by `rt run` in crates/world_main")
     folder = tempfile.mkdtemp()
     try:
-        world, yardstick = Runner([chosen.program], {}, folder), None
+        wall = chosen.wall or chosen.workers > 1
+        world, yardstick = Runner([chosen.program], {}, folder, wall), None
         has_segments = knows(world, folder, [], b"seg 0 0 0 0 0 0\n")
         if knows(world, folder, ["--workers", "1"], b""):
             world.command += ["--workers", str(chosen.workers)]
-        if not os.path.exists(YARDSTICK):
-            print(f"There is no yardstick {os.path.normpath(YARDSTICK)}: the program's figures alone, without ratios.\n")
+        if not os.path.exists(chosen.yardstick):
+            print(f"There is no yardstick {os.path.normpath(chosen.yardstick)}: the program's figures alone, without ratios.\n")
         else:
             built = os.path.join(folder, "yardstick")
-            subprocess.run(["rustc", "--edition", "2021", "-A", "warnings", "-C", "opt-level=3", "-o", built, YARDSTICK], check=True)
-            yardstick = Runner([built], {"BASE": "1", "YARD_THREADS": str(chosen.workers), "YARD_TIMING": "1"}, folder)
+            subprocess.run(["rustc", "--edition", "2021", "-A", "warnings", "-C", "opt-level=3", "-o", built,
+                            chosen.yardstick], check=True)
+            yardstick = Runner([built], {"BASE": "1", "YARD_THREADS": str(chosen.workers), "YARD_TIMING": "1"},
+                               folder, wall)
         print(f"{machine()}; {datetime.date.today()}; medians of {chosen.runs} runs in turn "
               f"({3 * chosen.runs} at {2 * SIDES[0] ** 2:,} triangles).\n")
         print("| triangles | read, MB/s | ratio | build, ms | ratio | boxes a second | ratio | segments a second | ratio "
