@@ -3,7 +3,8 @@
 
     python3 bench/against_oracle.py [--program PATH] [--files FOLDER] [--random COUNT] [--seed N] [--all]
 
-1. Worked rows, whose replies were found by hand: the oracle is compared with them first, then the program.
+1. Worked rows, whose replies were found by hand: the oracle is compared with them first, then the program; and lists of
+   words of the command line.
 2. Real files of other people's tools, in ../shared/objs: at 64 steps to a unit, at the largest unit at which the file fits,
    and at the smallest; skipped with a message where the folder is missing.
 3. Random small meshes and scripts from a fixed seed, faulty ones among them.
@@ -116,6 +117,14 @@ CODES = [1, 2, 4, 5, 19, 24, 25, 30]
 SPANS = [(0, 7, 3), (0, 1, 0), (2, 3, 2), (0, 3, 1), (4, 7, 4), (5, 7, 6), (5, 6, 5)]
 
 
+# Words of the command line, where there is more than the mesh; MESH stands for its path.
+ACCEPTED = ["MESH", "--unit=1 MESH", "MESH --workers 64 --build karras", "--build=karras --unit 000007 MESH --workers=1",
+            "MESH --unit 65536"]
+REFUSED = ["", "MESH MESH", "MESH --workers 0", "MESH --workers 65", "MESH --workers 2 --workers 2", "--grid 1", "--grid 2 MESH",
+           "--grid 2 --unit 1", "-- MESH", "MESH --build fast", "MESH --unit +1", "--help", "-h", "--version", "-V", "MESH --unit 0",
+           "MESH --unit 65537", "MESH --unit 0000001", "MESH --unit", "MESH --unit=", "MESH -u 1", "--unit MESH", "MESH --Unit 1"]
+
+
 def tree_of_codes(codes):
     """The oracle's tree over triangles of these codes, each a single point."""
     points = []
@@ -157,7 +166,7 @@ class Program:
 
     def __init__(self, path, folder):
         self.path, self.folder, self.compared, self.lines, self.bad = path, folder, 0, 0, 0
-        probe = os.path.join(folder, "probe.obj")
+        self.probe = probe = os.path.join(folder, "probe.obj")
         with open(probe, "wb") as file:
             file.write(T)
         self.has_unit = self.start(probe, b"", ["--unit", "64"])[1] != oracle.USAGE
@@ -195,6 +204,17 @@ class Program:
                 if ours != theirs:
                     print(f"  program: {ours[:200]}\n  oracle:  {theirs[:200]}")
                     break
+
+
+def compare_words(program):
+    """Lists of words that are accepted, and lists that are not."""
+    for words, accepted in [(words, True) for words in ACCEPTED] + [(words, False) for words in REFUSED]:
+        options = [program.probe if word == "MESH" else word for word in words.split()]
+        done = subprocess.run([program.path, *options], input=b"", capture_output=True, check=False)
+        program.compared += 1
+        if (done.stdout, done.returncode) != ((b"", oracle.DONE) if accepted else (b"bad command line\n", oracle.USAGE)):
+            program.bad += 1
+            print(f"DIFFERS: the words `{words}`: status {done.returncode}, {done.stdout[:100]}")
 
 
 def compare_rows(program):
@@ -422,6 +442,9 @@ def main():
             print("NOT KNOWN to this program, and so not compared:", ", ".join(lacks))
         compare_rows(program)
         print(f"worked rows: {program.compared} runs of {len(ROWS)}")
+        if program.has_unit:
+            compare_words(program)
+            print(f"words of the command line: {len(ACCEPTED)} lists accepted, {len(REFUSED)} refused")
         compare_real_files(program, random.Random(chosen.seed), chosen.files)
         compare_random(program, random.Random(chosen.seed), chosen.random)
         print(f"{program.compared} runs, {program.lines} script lines, {program.bad} differences")
