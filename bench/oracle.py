@@ -244,7 +244,7 @@ class Tree:
 
 # ------------------------------------------------------------------------------------------------ segments
 
-def less(p, q):
+def difference(p, q):
     return tuple(a - b for a, b in zip(p, q))
 
 
@@ -260,8 +260,8 @@ def meeting(p, q, triangle):
     It is the solution of p + t (q - p) = a + v (b - a) + w (c - a), three equations for t, v and w, with t from 0 to 1,
     v and w at least 0, and v + w at most 1. Faces, edges, corners and ends count."""
     a, b, c = triangle
-    columns = [less(q, p), less(a, b), less(a, c)]
-    right = less(a, p)
+    columns = [difference(q, p), difference(a, b), difference(a, c)]
+    right = difference(a, p)
     whole = determinant(*columns)
     if whole == 0:
         return None
