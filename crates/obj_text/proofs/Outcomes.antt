@@ -1,5 +1,5 @@
 -- What a text gives when its lines are read: up to one that has a fault, or all.
-use Rattle.std.proofs.Common.{◌≡◌, ℕ, ◌+◌, ◌-◌, List, [], ◌∷◌, length, cond, sym, ap, subst, ◌∙◌, append-nil, arith, Ok, Err, Result}
+use Rattle.std.proofs.Common.{◌≡◌, ℕ, ◌+◌, List, [], ◌∷◌, length, cond, sym, ap, subst, ◌∙◌, append-nil, arith, Ok, Err, Result}
 use Rattle.std.specs.Prelude.{codes}
 use Rattle.std.specs.List.{All}
 use Rattle.fixed_box.specs.declared.shapes.Point.{Point}

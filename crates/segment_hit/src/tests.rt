@@ -1,5 +1,7 @@
-//! Worked segments, and a table of others that a script outside this repository solved.
+//! Worked segments, a table of others that a script outside this repository solved, and some thousand small ones that
+//! are solved here in another way.
 
+mod sides;
 mod table;
 
 ghost use Rattle.std.specs.Prelude.{IsTrue};
@@ -7,6 +9,7 @@ ghost use Rattle.fixed_box.specs.World.{TriInWorld};
 
 use crate::{Frac, cmp, hit};
 use fixed_box::{Point, Tri, in_world};
+use sides::met;
 use std::cmp::Ordering;
 use std::rt::HostRuntime;
 use table::{CASES, FRACTIONS};
@@ -105,4 +108,54 @@ fn fractions_compare_as_their_values_do(rt: HostRuntime) {
             last = Some(f);
         }
     }
+}
+
+/// Numbers from 0 to 7 that jump about.
+#[derive(Drop)]
+struct Digits {
+    seed: u64,
+}
+
+impl Digits {
+    fn next(&mut self) -> i32 {
+        self.seed = self
+            .seed
+            .wrapping_mul(6364136223846793005)
+            .wrapping_add(1442695040888963407);
+        (self.seed >> 61) as i32
+    }
+
+    fn point(&mut self) -> Point {
+        let x = self.next();
+        let y = self.next();
+        let z = self.next();
+        Point { x, y, z }
+    }
+}
+
+#[test]
+fn small_segments_meet_where_the_sides_of_edges_say(rt: HostRuntime) {
+    let mut digits = Digits { seed: 12 };
+    let mut hits = 0u32;
+    for _ in 0..4000 {
+        let p = digits.point();
+        let q = digits.point();
+        let a = digits.point();
+        let b = digits.point();
+        let c = digits.point();
+        let t = Tri { a, b, c };
+        let solved = met(&p, &q, &t);
+        let found = hit_in_world(p, q, t);
+        assert_eq!(rt; found.is_some(), solved.is_some(), "{p:?} {q:?} {t:?}");
+        if let (Some(f), Some((time, whole))) = (found, solved) {
+            hits = hits.saturating_add(1);
+            assert_eq!(rt;
+                f.num.wrapping_mul(whole),
+                time.wrapping_mul(f.den),
+                "{p:?} {q:?} {t:?}"
+            );
+        }
+    }
+    // counted by a script outside this repository, which also found 137 of them on an edge
+    assert_eq!(rt; hits, 479);
 }
