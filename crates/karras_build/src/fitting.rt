@@ -21,7 +21,7 @@ use std::alloc::{AllocError, Global};
 use std::thread::{Threads, join_mut};
 
 /// How few nodes a half may have to be fitted in a thread of its own.
-const LEAST_HALF: usize = 16384;
+const LEAST_HALF: usize = 8192;
 
 /// The box of the triangle at a position.
 fn box_at(inputs: &Inputs<'_>, position: usize) -> Box3
