@@ -1,3 +1,11 @@
-pub mod Cutting
 pub mod Few
 pub mod Bounds
+pub mod OneCommand
+pub mod OneWalk
+pub mod OneRun
+pub mod Grammar
+pub mod MeshPlace
+pub mod Gathered
+pub mod SamePlan
+pub mod RowValues
+pub mod Dashes

@@ -1,3 +1,5 @@
 pub mod Values
 pub mod Items
 pub mod Plans
+pub mod Uses
+pub mod Command

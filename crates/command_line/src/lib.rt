@@ -1,17 +1,19 @@
 //! The words of the command line, read as the plan of a run.
 //!
-//! The words are cut from left to right into items, and the items make a plan where they keep a few rules. Every other
-//! list is refused, whatever is wrong with it.
+//! By the definition the words are cut from left to right into items, and the items make a plan where they keep a few
+//! rules. Every other list is refused, whatever is wrong with it. The code hands the words to one command of `clap`, and
+//! is proved to come to the same.
 #![tactic(auto)]
 
+mod command;
 mod fault;
-mod items;
+mod given;
 mod limits;
 mod names;
 mod parts;
+mod place;
 mod plan;
 mod read;
-mod rules;
 mod values;
 
 pub use fault::WordsFault;

@@ -4,11 +4,12 @@ ghost use Rattle.std.specs.Prelude.{◌≡◌, Some, None, IfOk, IfErr, length};
 ghost use Rattle.command_line.specs.Items.{texts_of};
 ghost use Rattle.command_line.specs.Plans.{plan_of, IsInBounds};
 
+use crate::command::parsed;
 use crate::fault::WordsFault;
-use crate::items::items_of;
+use crate::given::row_plan;
 use crate::limits::MOST_WORDS;
+use crate::place::{has_dashes, mesh_place};
 use crate::plan::Plan;
-use crate::rules::item_plan;
 use std::alloc::Global;
 
 /// The plan that the words behind the program's name make.
@@ -24,7 +25,8 @@ use std::alloc::Global;
 /// | `build` | `karras` | `karras` |
 ///
 /// Every other list is refused as `Usage`, also one with `--grid` or `--build apetrei`, which ask for what is not there
-/// yet. The plan holds the place of the MESH word, counted from 0. It takes memory for at most eight items at a time.
+/// yet. The plan holds the place of the MESH word, counted from 0. It takes memory for one command of `clap`
+/// and what that finds in at most eight words.
 pub fn read_words(alloc: Global, words: &[String]) -> Result<Plan, WordsFault>
     ensures plan { IfOk result (λ plan. plan_of (texts_of words.now) ≡ Some plan) }
     ensures usage { IfErr result (λ fault. fault ≡ WordsFault.Usage → plan_of (texts_of words.now) ≡ None) }
@@ -34,6 +36,12 @@ pub fn read_words(alloc: Global, words: &[String]) -> Result<Plan, WordsFault>
     if MOST_WORDS < words.len() {
         return Err(WordsFault::Usage);
     }
-    let items = items_of(alloc, words)?;
-    item_plan(alloc, &items)
+    if has_dashes(words) {
+        return Err(WordsFault::Usage);
+    }
+    let matches = parsed(alloc, words)?;
+    match row_plan(mesh_place(words), &matches) {
+        Some(plan) => Ok(plan),
+        None => Err(WordsFault::Usage),
+    }
 }

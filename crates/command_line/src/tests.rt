@@ -24,7 +24,7 @@ const ACCEPTED: [(&str, u32, u32, u32); 10] = [
 ];
 
 /// Refused lists. Two spaces, or one at an end, stand for a word that is empty.
-const REFUSED: [&str; 48] = [
+const REFUSED: [&str; 52] = [
     "",
     " ",
     "a.obj ",
@@ -73,6 +73,10 @@ const REFUSED: [&str; 48] = [
     "-h",
     "-V",
     "a.obj -",
+    "-",
+    "a.obj --work=2",
+    "a.obj --unit -",
+    "--workers 5 5 --workers=5",
 ];
 
 #[test]

@@ -4,7 +4,7 @@ use Rattle.std.specs.Prelude.{codes}
 use Rattle.fixed_box.specs.Extent.{corner_box}
 use Rattle.query_script.specs.Asks.{ask_of, steps_of}
 use Rattle.query_script.specs.declared.asks.Ask.TheVariants as ask
-use Rattle.query_script.specs.declared.faults.LineFault.TheVariants.{UnknownWord, WrongCount, NotANumber, NumberTooLong, OutOfRange}
+use Rattle.query_script.specs.declared.faults.LineFault.TheVariants.{UnknownWord, WrongCount, NumberTooLong, OutOfRange}
 
 -- two corners at 64 grid steps to the unit
 corners

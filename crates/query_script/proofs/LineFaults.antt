@@ -1,15 +1,18 @@
 -- The faults that reading a line may have: all but that of a missing node, which only a world knows.
-use Rattle.std.proofs.Common.{◌≢◌, ℕ, Bool, true, false, List, ◌==◌, ◌&&◌, length, drop, ℤ, pos, neg_ℤ, ◌*ℤ◌, Option, None, Some, Result, Ok, Err}
-use Rattle.std.specs.Prelude.{int_le, if◌then◌else◌}
+use Rattle.std.proofs.Common.{◌≢◌, ℕ, Bool, true, false, List, ◌==◌, ◌&&◌, length, drop, ℤ, neg_ℤ, Option, None, Some, Result, Ok, Err}
+use Rattle.std.specs.Prelude.{int_le, int_lt, if◌then◌else◌}
 use Rattle.decimals.specs.Values.{grid_of, whole_of}
 use Rattle.decimals.specs.declared.fault.NumberFault.{NumberFault}
 use Rattle.decimals.specs.declared.fault.NumberFault.TheVariants as number
 use Rattle.query_script.specs.declared.limits.TheConstants.{REACH}
+use Rattle.fixed_box.specs.declared.shapes.TheConstants.{HALF}
+use Rattle.query_script.specs.declared.bounds.Bounds.{Bounds}
+use Rattle.query_script.specs.declared.bounds.Bounds.TheVariants as bounds
 use Rattle.query_script.specs.declared.keywords.Keyword.{Keyword}
 use Rattle.query_script.specs.declared.keywords.Keyword.TheVariants as keyword
 use Rattle.query_script.specs.declared.faults.LineFault.{LineFault}
-use Rattle.query_script.specs.declared.faults.LineFault.TheVariants.{WrongCount, NotANumber, OutOfRange, NoSuchNode}
-use Rattle.query_script.specs.Asks.{onward, within_reach, steps_of, coordinate_of, number_or_fault, number_of, first_of, corner_of, fields_ask, count_of, counted_ask}
+use Rattle.query_script.specs.declared.faults.LineFault.TheVariants.{WrongCount, OutOfRange, NoSuchNode}
+use Rattle.query_script.specs.Asks.{onward, within, steps_of, coordinate_of, number_or_fault, number_of, first_of, point_of, fields_ask, count_of, counted_ask}
 
 -- the result is no missing node
 abbrev pub IsKnown : {A : Type 0} → Result A LineFault → Type 0
@@ -35,33 +38,39 @@ known_number (Err number.NotANumber) = λ e. cc
 known_number (Err number.TooLong) = λ e. cc
 
 -- a count of grid steps
-known_reach : (steps : ℤ) → IsKnown (within_reach steps)
-known_reach steps =
+known_within : (bounds : Bounds) (steps : ℤ) → IsKnown (within bounds steps)
+known_within bounds.Reach steps =
     known_choice (int_le (neg_ℤ REACH) steps && int_le steps REACH) (Ok steps) (Err OutOfRange) (λ e. cc) (λ e. cc)
+known_within bounds.World steps =
+    known_choice (int_le (neg_ℤ HALF) steps && int_lt steps HALF) (Ok steps) (Err OutOfRange) (λ e. cc) (λ e. cc)
 
 -- a coordinate
-known_coordinate : (unit : ℕ) (word : List ℕ) → IsKnown (coordinate_of unit word)
+known_coordinate : (unit : ℕ) (bounds : Bounds) (word : List ℕ) → IsKnown (coordinate_of unit bounds word)
 unfolding steps_of
-known_coordinate unit word =
-    known_onward (steps_of unit word) within_reach (known_number (grid_of unit word)) known_reach
+known_coordinate unit bounds word =
+    known_onward (steps_of unit word) (within bounds) (known_number (grid_of unit word)) (known_within bounds)
 
--- a corner
-known_corner : (unit : ℕ) (words : List (List ℕ)) → IsKnown (corner_of unit words)
-known_corner unit words =
+-- a point
+known_point : (unit : ℕ) (bounds : Bounds) (words : List (List ℕ)) → IsKnown (point_of unit bounds words)
+known_point unit bounds words =
     let x = first_of words in
     let y = first_of (drop 1 words) in
     let z = first_of (drop 2 words) in
-    known_onward (coordinate_of unit x) _ (known_coordinate unit x) (λ a.
-    known_onward (coordinate_of unit y) _ (known_coordinate unit y) (λ b.
-    known_onward (coordinate_of unit z) _ (known_coordinate unit z) (λ c e. cc)))
+    known_onward (coordinate_of unit bounds x) _ (known_coordinate unit bounds x) (λ a.
+    known_onward (coordinate_of unit bounds y) _ (known_coordinate unit bounds y) (λ b.
+    known_onward (coordinate_of unit bounds z) _ (known_coordinate unit bounds z) (λ c e. cc)))
 
 -- what follows a keyword
 known_fields : (unit : ℕ) (k : Keyword) (words : List (List ℕ)) → IsKnown (fields_ask unit k words)
 known_fields unit keyword.Box words =
-    known_onward (corner_of unit words) _ (known_corner unit words) (λ p.
-    known_onward (corner_of unit (drop 3 words)) _ (known_corner unit (drop 3 words)) (λ q e. cc))
+    known_onward (point_of unit bounds.Reach words) _ (known_point unit bounds.Reach words) (λ p.
+    known_onward (point_of unit bounds.Reach (drop 3 words)) _ (known_point unit bounds.Reach (drop 3 words)) (λ q e. cc))
+known_fields unit keyword.Seg words =
+    known_onward (point_of unit bounds.World words) _ (known_point unit bounds.World words) (λ p.
+    known_onward (point_of unit bounds.World (drop 3 words)) _ (known_point unit bounds.World (drop 3 words)) (λ q e. cc))
 known_fields unit keyword.Node words =
     known_onward (number_of (first_of words)) _ (known_number (whole_of (first_of words))) (λ n e. cc)
+known_fields unit keyword.Groups words = λ e. cc
 known_fields unit keyword.Work words = λ e. cc
 
 -- a keyword, if it is one, and what follows it

@@ -1,13 +1,17 @@
 -- What a line of a script asks, or the first thing that is wrong with it.
-use Rattle.std.specs.Prelude.{ℕ, Bool, false, List, [], ◌∷◌, ◌==◌, ◌&&◌, nat_lt, length, drop, if◌then◌else◌, ℤ, neg_ℤ, int_le, codes, Option, None, Some, Result, Ok, Err}
+use Rattle.std.specs.Prelude.{ℕ, Bool, false, List, [], ◌∷◌, ◌==◌, ◌&&◌, nat_lt, length, drop, if◌then◌else◌, ℤ, neg_ℤ, int_le, int_lt, codes, Option, None, Some, Result, Ok, Err, ⊤}
 use Rattle.std.specs.Str.{bytes_eq}
 use Rattle.fixed_box.specs.Extent.{corner_box}
+use Rattle.fixed_box.specs.World.{IsCoordinate, InWorld}
 use Rattle.fixed_box.specs.declared.shapes.Point.{Point}
+use Rattle.fixed_box.specs.declared.shapes.TheConstants.{HALF}
 use Rattle.text_words.specs.Lines.{words_of}
 use Rattle.decimals.specs.Values.{grid_of, whole_of}
 use Rattle.decimals.specs.declared.fault.NumberFault.{NumberFault}
 use Rattle.decimals.specs.declared.fault.NumberFault.TheVariants as number
 use Rattle.query_script.specs.declared.limits.TheConstants.{LINE_MOST, REACH}
+use Rattle.query_script.specs.declared.bounds.Bounds.{Bounds}
+use Rattle.query_script.specs.declared.bounds.Bounds.TheVariants as bounds
 use Rattle.query_script.specs.declared.keywords.Keyword.{Keyword}
 use Rattle.query_script.specs.declared.keywords.Keyword.TheVariants as keyword
 use Rattle.query_script.specs.declared.asks.Ask.{Ask}
@@ -26,6 +30,15 @@ onward (Err fault) next = Err fault
 abbrev pub within_reach : ℤ → Result ℤ LineFault
 within_reach steps = if int_le (neg_ℤ REACH) steps && int_le steps REACH then Ok steps else Err OutOfRange
 
+-- a count of grid steps, where the world goes so far
+abbrev pub within_world : ℤ → Result ℤ LineFault
+within_world steps = if int_le (neg_ℤ HALF) steps && int_lt steps HALF then Ok steps else Err OutOfRange
+
+-- a count of grid steps, where it is within its bounds
+abbrev pub within : Bounds → ℤ → Result ℤ LineFault
+within bounds.Reach steps = within_reach steps
+within bounds.World steps = within_world steps
+
 -- why a word is no number
 abbrev pub fault_of : NumberFault → LineFault
 fault_of number.NotANumber = NotANumber
@@ -41,8 +54,8 @@ unfoldable pub steps_of : ℕ → List ℕ → Result ℤ LineFault
 steps_of unit word = number_or_fault (grid_of unit word)
 
 -- the coordinate that it writes
-abbrev pub coordinate_of : ℕ → List ℕ → Result ℤ LineFault
-coordinate_of unit word = onward (steps_of unit word) within_reach
+abbrev pub coordinate_of : ℕ → Bounds → List ℕ → Result ℤ LineFault
+coordinate_of unit bounds word = onward (steps_of unit word) (within bounds)
 
 -- the whole number that a word writes
 abbrev pub number_of : List ℕ → Result ℕ LineFault
@@ -55,25 +68,31 @@ abbrev pub first_of : List (List ℕ) → List ℕ
 first_of [] = []
 first_of (word ∷ words) = word
 
--- the corner that the first three words write
-abbrev pub corner_of : ℕ → List (List ℕ) → Result Point LineFault
-corner_of unit words =
-    onward (coordinate_of unit (first_of words)) (λ x.
-    onward (coordinate_of unit (first_of (drop 1 words))) (λ y.
-    onward (coordinate_of unit (first_of (drop 2 words))) (λ z. Ok (record { x = x; y = y; z = z }))))
+-- the point that the first three words write
+abbrev pub point_of : ℕ → Bounds → List (List ℕ) → Result Point LineFault
+point_of unit bounds words =
+    onward (coordinate_of unit bounds (first_of words)) (λ x.
+    onward (coordinate_of unit bounds (first_of (drop 1 words))) (λ y.
+    onward (coordinate_of unit bounds (first_of (drop 2 words))) (λ z. Ok (record { x = x; y = y; z = z }))))
 
 -- what the words behind a keyword ask, of which there are enough; for `box` the least box that holds both corners
 abbrev pub fields_ask : ℕ → Keyword → List (List ℕ) → Result Ask LineFault
 fields_ask unit keyword.Box words =
-    onward (corner_of unit words) (λ p.
-    onward (corner_of unit (drop 3 words)) (λ q. Ok (ask.Overlap (corner_box p q))))
+    onward (point_of unit bounds.Reach words) (λ p.
+    onward (point_of unit bounds.Reach (drop 3 words)) (λ q. Ok (ask.Overlap (corner_box p q))))
+fields_ask unit keyword.Seg words =
+    onward (point_of unit bounds.World words) (λ p.
+    onward (point_of unit bounds.World (drop 3 words)) (λ q. Ok (ask.Seg p q)))
 fields_ask unit keyword.Node words = onward (number_of (first_of words)) (λ n. Ok (ask.NodeOf n))
+fields_ask unit keyword.Groups words = Ok ask.Groups
 fields_ask unit keyword.Work words = Ok ask.Work
 
 -- how many words follow a keyword
 abbrev pub count_of : Keyword → ℕ
 count_of keyword.Box = 6
+count_of keyword.Seg = 6
 count_of keyword.Node = 1
+count_of keyword.Groups = 0
 count_of keyword.Work = 0
 
 -- ---- a line
@@ -82,8 +101,10 @@ count_of keyword.Work = 0
 abbrev pub keyword_of : List ℕ → Option Keyword
 keyword_of word =
     if bytes_eq word (codes "box") then Some keyword.Box
+    else (if bytes_eq word (codes "seg") then Some keyword.Seg
     else (if bytes_eq word (codes "node") then Some keyword.Node
-    else (if bytes_eq word (codes "work") then Some keyword.Work else None))
+    else (if bytes_eq word (codes "groups") then Some keyword.Groups
+    else (if bytes_eq word (codes "work") then Some keyword.Work else None))))
 
 -- what a keyword and the words behind it ask
 abbrev pub counted_ask : ℕ → Option Keyword → List (List ℕ) → Result Ask LineFault
@@ -103,3 +124,24 @@ words_ask unit (word ∷ words) = if starts_comment word then Ok ask.Nothing els
 -- what a line asks, with so many grid steps to a unit
 abbrev pub ask_of : ℕ → List ℕ → Result Ask LineFault
 ask_of unit line = if nat_lt LINE_MOST (length line) then Err LineTooLong else words_ask unit (words_of line)
+
+-- ---- what holds of what is read
+
+-- the coordinate is within its bounds; nothing is said of a box, which may reach beyond the world
+abbrev pub Within : Bounds → ℤ → Type 0
+Within bounds.Reach x = ⊤
+Within bounds.World x = IsCoordinate x
+
+-- each coordinate of the point is within its bounds
+abbrev pub IsWithin : Bounds → Point → Type 0
+IsWithin bounds.Reach p = ⊤
+IsWithin bounds.World p = InWorld p
+
+-- the points of a segment are in the world
+abbrev pub IsAskable : Ask → Type 0
+IsAskable ask.Nothing = ⊤
+IsAskable (ask.Overlap around) = ⊤
+IsAskable (ask.Seg p q) = InWorld p × InWorld q
+IsAskable (ask.NodeOf number) = ⊤
+IsAskable ask.Groups = ⊤
+IsAskable ask.Work = ⊤

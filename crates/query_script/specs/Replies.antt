@@ -4,10 +4,12 @@ use Rattle.std.specs.Fmt.{signed_decimal}
 use Rattle.fixed_box.specs.declared.shapes.Point.{Point}
 use Rattle.fixed_box.specs.declared.shapes.Box3.{Box3}
 use Rattle.radix_tree.specs.declared.nodes.Node.{Node}
+use Rattle.segment_hit.specs.HitOf.{Ratio}
 use Rattle.query_script.specs.declared.faults.LineFault.{LineFault}
-use Rattle.query_script.specs.declared.faults.LineFault.TheVariants.{UnknownWord, WrongCount, NotANumber, NumberTooLong, OutOfRange, NoSuchNode, LineTooLong}
+use Rattle.query_script.specs.declared.groups.GroupCount.{GroupCount}
 use Rattle.query_script.specs.declared.replies.Reply.{Reply}
-use Rattle.query_script.specs.declared.replies.Reply.TheVariants.{Nothing, Overlaps, NodeIs, WorkIs, Refused}
+use Rattle.query_script.specs.declared.replies.Reply.TheVariants.{Nothing, Overlaps, Hit, Miss, NodeIs, GroupsAre, WorkIs, Refused}
+use Rattle.query_script.specs.Reasons.{fault_text}
 
 -- each word behind a space
 abbrev pub spaced : List (List ℕ) → List ℕ
@@ -22,6 +24,20 @@ line_of first words = first ++ (spaced words ++ codes "\n")
 abbrev pub counted_words : List ℕ → List (List ℕ)
 counted_words [] = decimal 0 ∷ []
 counted_words (n ∷ ns) = (decimal (length (n ∷ ns)) ++ codes ":") ∷ map decimal (n ∷ ns)
+
+-- a fraction
+unfoldable pub ratio_word : Ratio → List ℕ
+ratio_word at = signed_decimal at.num ++ (codes "/" ++ signed_decimal at.den)
+
+-- the names of groups, each with its count of triangles
+abbrev pub tally_words : List GroupCount → List (List ℕ)
+tally_words [] = []
+tally_words (g ∷ gs) = g.name ∷ decimal g.count ∷ tally_words gs
+
+-- a count of groups, and where it is not 0 a colon and the groups
+abbrev pub group_words : List GroupCount → List (List ℕ)
+group_words [] = decimal 0 ∷ []
+group_words (g ∷ gs) = (decimal (length (g ∷ gs)) ++ codes ":") ∷ tally_words (g ∷ gs)
 
 -- the coordinates of a point
 abbrev pub point_words : Point → List (List ℕ)
@@ -39,16 +55,6 @@ range_words node = decimal node.first ∷ decimal node.last ∷ decimal node.spl
 abbrev pub node_words : Node → List (List ℕ)
 node_words node = range_words node ++ box_words node.fit
 
--- why a line is refused
-abbrev pub fault_text : LineFault → List ℕ
-fault_text UnknownWord = codes "unknown word"
-fault_text WrongCount = codes "wrong count of words"
-fault_text NotANumber = codes "not a number"
-fault_text NumberTooLong = codes "number too long"
-fault_text OutOfRange = codes "out of range"
-fault_text NoSuchNode = codes "no such node"
-fault_text LineTooLong = codes "line too long"
-
 -- the line of this number is refused
 abbrev pub refusal_text : ℕ → LineFault → List ℕ
 refusal_text line fault = codes "line " ++ (decimal line ++ (codes ": " ++ (fault_text fault ++ codes "\n")))
@@ -57,7 +63,10 @@ refusal_text line fault = codes "line " ++ (decimal line ++ (codes ": " ++ (faul
 abbrev pub reply_text : ℕ → Reply → List ℕ
 reply_text line Nothing = []
 reply_text line (Overlaps ns) = line_of (codes "overlaps") (counted_words ns)
+reply_text line (Hit tri at) = line_of (codes "hit") (decimal tri ∷ ratio_word at ∷ [])
+reply_text line Miss = codes "miss\n"
 reply_text line (NodeIs number node) = line_of (codes "node") (decimal number ∷ node_words node)
+reply_text line (GroupsAre groups) = line_of (codes "groups") (group_words groups)
 reply_text line (WorkIs work) = line_of (codes "work") (decimal work ∷ [])
 reply_text line (Refused fault) = refusal_text line fault
 
@@ -66,5 +75,8 @@ abbrev pub is_refused : Reply → Bool
 is_refused (Refused fault) = true
 is_refused Nothing = false
 is_refused (Overlaps ns) = false
+is_refused (Hit tri at) = false
+is_refused Miss = false
 is_refused (NodeIs number node) = false
+is_refused (GroupsAre groups) = false
 is_refused (WorkIs work) = false

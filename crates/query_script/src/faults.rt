@@ -9,7 +9,7 @@ pub enum LineFault {
     WrongCount,
     /// A word does not have the form of its number.
     NotANumber,
-    /// A whole number has more than 24 digits from the first that is not `0` on.
+    /// A number has more than 24 digits from the first that is not `0` on, a decimal's exponent aside.
     NumberTooLong,
     /// A coordinate is too far out.
     OutOfRange,

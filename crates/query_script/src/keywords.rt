@@ -5,8 +5,12 @@
 pub enum Keyword {
     /// `box`, and the coordinates of two corners.
     Box,
+    /// `seg`, and the coordinates of two points.
+    Seg,
     /// `node`, and a number.
     Node,
+    /// `groups`, and nothing more.
+    Groups,
     /// `work`, and nothing more.
     Work,
 }

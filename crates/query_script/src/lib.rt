@@ -5,19 +5,26 @@
 #![tactic(auto)]
 
 mod asks;
+mod bounds;
 mod faults;
+mod fractions;
+mod groups;
 mod keywords;
 mod limits;
 mod lines;
 mod numbers;
+mod reasons;
 mod replies;
 mod texts;
 
 pub use asks::Ask;
 pub use faults::LineFault;
+pub use fractions::HitFraction;
+pub use groups::{GroupCount, GroupList};
 pub use lines::read_line;
+pub use reasons::{fault_text, why_text};
 pub use replies::Reply;
-pub use texts::{fault_text, is_refused, reply_text};
+pub use texts::{is_refused, reply_text};
 
 #[cfg(test)]
 mod tests;

@@ -1,10 +1,11 @@
 //! A line of a script, read: one function for each step of the definition.
 
-ghost use Rattle.std.specs.Prelude.{◌≡◌, ◌≢◌, Err, OnOk, drop};
-ghost use Rattle.query_script.specs.Asks.{ask_of, counted_ask, fields_ask, corner_of, keyword_of, count_of, starts_comment};
+ghost use Rattle.std.specs.Prelude.{◌≡◌, ◌≢◌, Err, OnOk, IfOk, drop};
+ghost use Rattle.query_script.specs.Asks.{ask_of, counted_ask, fields_ask, point_of, keyword_of, count_of, starts_comment, IsAskable, IsWithin};
 ghost use Rattle.query_script.specs.declared.faults.LineFault.TheVariants.{NoSuchNode};
 
 use crate::asks::Ask;
+use crate::bounds::Bounds;
 use crate::faults::LineFault;
 use crate::keywords::Keyword;
 use crate::limits::LINE_MOST;
@@ -19,15 +20,17 @@ use text_words::Words;
 ///
 /// - the line has at most 1,000 bytes, else `LineTooLong`;
 /// - a line without words, or whose first word begins with `#`, asks nothing;
-/// - the first word is `box`, `node` or `work`, else `UnknownWord`;
-/// - six, one or no words follow it, else `WrongCount`;
-/// - each of them from left to right: a coordinate behind `box` is a decimal (see `decimals::grid`) and a number behind
-///   `node` is digits alone, else `NotANumber`; either has at most 24 digits from the first that is not `0` on, else
-///   `NumberTooLong`; a coordinate is from -2147483647 to 2147483647 grid steps, else `OutOfRange`.
+/// - the first word is `box`, `seg`, `node`, `groups` or `work`, else `UnknownWord`;
+/// - six, six, one, no or no words follow it, else `WrongCount`;
+/// - each of them from left to right: a coordinate behind `box` or `seg` is a decimal (see `decimals::grid`) and a number
+///   behind `node` is digits alone, else `NotANumber`; either has at most 24 digits from the first that is not `0` on, a
+///   decimal's exponent aside, else `NumberTooLong`; a coordinate behind `box` is from -2147483647 to 2147483647 grid
+///   steps and one behind `seg` is in the world, else `OutOfRange`.
 ///
 /// The two corners of a `box` may stand in any order. It takes no memory.
 pub fn read_line(line: &[u8], unit: u32) -> Result<Ask, LineFault>
     ensures ask { result ≡ ask_of unit line.now }
+    ensures askable { IfOk result IsAskable }
     ensures without_world { result ≢ Err NoSuchNode }
 {
     if LINE_MOST < line.len() {
@@ -58,8 +61,14 @@ fn keyword(word: &[u8]) -> Option<Keyword>
     if word == b"box".as_slice() {
         return Some(Keyword::Box);
     }
+    if word == b"seg".as_slice() {
+        return Some(Keyword::Seg);
+    }
     if word == b"node".as_slice() {
         return Some(Keyword::Node);
+    }
+    if word == b"groups".as_slice() {
+        return Some(Keyword::Groups);
     }
     if word == b"work".as_slice() {
         return Some(Keyword::Work);
@@ -72,14 +81,17 @@ fn count_of(keyword: Keyword) -> usize
 {
     match keyword {
         Keyword::Box => 6,
+        Keyword::Seg => 6,
         Keyword::Node => 1,
+        Keyword::Groups => 0,
         Keyword::Work => 0,
     }
 }
 
 /// What a keyword and the words behind it ask.
 fn counted(keyword: Option<Keyword>, words: &mut Words, unit: u32) -> Result<Ask, LineFault>
-    ensures { result ≡ counted_ask unit keyword words.old }
+    ensures ask { result ≡ counted_ask unit keyword words.old }
+    ensures askable { IfOk result IsAskable }
 {
     let Some(keyword) = keyword else {
         return Err(LineFault::UnknownWord);
@@ -91,30 +103,38 @@ fn counted(keyword: Option<Keyword>, words: &mut Words, unit: u32) -> Result<Ask
 }
 
 fn fields(keyword: Keyword, words: &mut Words, unit: u32) -> Result<Ask, LineFault>
-    ensures { result ≡ fields_ask unit keyword words.old }
+    ensures ask { result ≡ fields_ask unit keyword words.old }
+    ensures askable { IfOk result IsAskable }
 {
     match keyword {
         Keyword::Box => {
-            let p = corner(words, unit)?;
-            let q = corner(words, unit)?;
+            let p = point(words, unit, Bounds::Reach)?;
+            let q = point(words, unit, Bounds::Reach)?;
             let around = Box3::of_corners(p, q);
             Ok(Ask::Overlap { around })
+        }
+        Keyword::Seg => {
+            let p = point(words, unit, Bounds::World)?;
+            let q = point(words, unit, Bounds::World)?;
+            Ok(Ask::Seg { p, q })
         }
         Keyword::Node => {
             let number = number(words)?;
             Ok(Ask::NodeOf { number })
         }
+        Keyword::Groups => Ok(Ask::Groups),
         Keyword::Work => Ok(Ask::Work),
     }
 }
 
-/// The next three words as a corner.
-fn corner(words: &mut Words, unit: u32) -> Result<Point, LineFault>
-    ensures value { result ≡ corner_of unit words.old }
+/// The next three words as a point.
+fn point(words: &mut Words, unit: u32, bounds: Bounds) -> Result<Point, LineFault>
+    ensures value { result ≡ point_of unit bounds words.old }
+    ensures within { IfOk result (IsWithin bounds) }
     ensures rest { OnOk result (words.new ≡ drop 3 words.old) }
 {
-    let x = coordinate(words, unit)?;
-    let y = coordinate(words, unit)?;
-    let z = coordinate(words, unit)?;
+    let x = coordinate(words, unit, bounds)?;
+    let y = coordinate(words, unit, bounds)?;
+    let z = coordinate(words, unit, bounds)?;
     Ok(Point { x, y, z })
 }

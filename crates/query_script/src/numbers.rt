@@ -1,27 +1,32 @@
 //! The numbers of a line, each in the next word. The words were counted before, so there is always one.
 
-ghost use Rattle.std.specs.Prelude.{◌≡◌, drop};
-ghost use Rattle.query_script.specs.Asks.{within_reach, coordinate_of, steps_of, fault_of, number_of, first_of};
+ghost use Rattle.std.specs.Prelude.{◌≡◌, IfOk, drop};
+ghost use Rattle.fixed_box.specs.World.{IsCoordinate};
+ghost use Rattle.query_script.specs.Asks.{within, within_reach, within_world, Within, coordinate_of, steps_of, fault_of, number_of, first_of};
 
+use crate::bounds::Bounds;
 use crate::faults::LineFault;
 use crate::limits::REACH;
 use decimals::{NumberFault, grid, whole};
+use fixed_box::HALF;
 use text_words::Words;
 
 /// The next word as a coordinate, in grid steps.
-pub fn coordinate(words: &mut Words, unit: u32) -> Result<i32, LineFault>
-    ensures value { result ≡ coordinate_of unit (first_of words.old) }
+pub fn coordinate(words: &mut Words, unit: u32, bounds: Bounds) -> Result<i32, LineFault>
+    ensures value { result ≡ coordinate_of unit bounds (first_of words.old) }
+    ensures within { IfOk result (Within bounds) }
     ensures rest { words.new ≡ drop 1 words.old }
 {
     let word = words.next().unwrap_or(b"");
-    coordinate_of(word, unit)
+    coordinate_of(word, unit, bounds)
 }
 
-fn coordinate_of(word: &[u8], unit: u32) -> Result<i32, LineFault>
-    ensures { result ≡ coordinate_of unit word.now }
+fn coordinate_of(word: &[u8], unit: u32, bounds: Bounds) -> Result<i32, LineFault>
+    ensures value { result ≡ coordinate_of unit bounds word.now }
+    ensures within { IfOk result (Within bounds) }
 {
     let steps = steps_of(word, unit)?;
-    within_reach(steps)
+    within(steps, bounds)
 }
 
 #[tactic(auto, unfolding(crate::specs::Asks::steps_of))]
@@ -31,10 +36,31 @@ fn steps_of(word: &[u8], unit: u32) -> Result<i64, LineFault>
     grid(word, unit).map_err(fault_of)
 }
 
+fn within(steps: i64, bounds: Bounds) -> Result<i32, LineFault>
+    ensures value { result ≡ within bounds steps }
+    ensures within { IfOk result (Within bounds) }
+{
+    match bounds {
+        Bounds::Reach => within_reach(steps),
+        Bounds::World => within_world(steps),
+    }
+}
+
 fn within_reach(steps: i64) -> Result<i32, LineFault>
     ensures { result ≡ within_reach steps }
 {
     if -REACH <= steps && steps <= REACH {
+        Ok(steps as i32)
+    } else {
+        Err(LineFault::OutOfRange)
+    }
+}
+
+fn within_world(steps: i64) -> Result<i32, LineFault>
+    ensures value { result ≡ within_world steps }
+    ensures within { IfOk result IsCoordinate }
+{
+    if -i64::from(HALF) <= steps && steps < i64::from(HALF) {
         Ok(steps as i32)
     } else {
         Err(LineFault::OutOfRange)

@@ -1,6 +1,8 @@
 //! What a line of a script is answered.
 
 use crate::faults::LineFault;
+use crate::fractions::HitFraction;
+use crate::groups::GroupList;
 use radix_tree::Node;
 use traversal::Numbers;
 
@@ -11,8 +13,14 @@ pub enum Reply {
     Nothing,
     /// The numbers of the triangles whose boxes meet the box, rising.
     Overlaps(Numbers),
+    /// The triangle of that number is struck first, at that fraction of the way.
+    Hit { tri: u32, at: HitFraction },
+    /// No triangle is struck.
+    Miss,
     /// The inner node of that number.
     NodeIs { number: u64, node: Node },
+    /// The names of the mesh's groups in their order, each with its count of triangles.
+    GroupsAre(GroupList),
     /// How many boxes the last box query looked at.
     WorkIs(u64),
     /// The line was refused, for this.

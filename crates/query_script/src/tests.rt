@@ -1,12 +1,37 @@
 //! Worked lines and replies, and each public call once.
 
+ghost use Rattle.fixed_box.specs.World.{InWorld};
+
 use super::*;
-use fixed_box::{Box3, Point};
+use fixed_box::{Box3, Point, Tri};
+use obj_text::Why;
+use outside::Name;
 use radix_tree::Node;
+use segment_hit::hit;
 use std::alloc::Global;
 use std::process::Abort;
 use std::test::Fail;
 use traversal::Numbers;
+
+const TRIANGLE: Tri = Tri {
+    a: Point { x: 0, y: 0, z: 0 },
+    b: Point { x: 4, y: 0, z: 0 },
+    c: Point { x: 0, y: 4, z: 0 },
+};
+
+/// A point under the triangle.
+fn below() -> Point
+    ensures { InWorld result }
+{
+    Point { x: 1, y: 1, z: -1 }
+}
+
+/// The point as far above it.
+fn above() -> Point
+    ensures { InWorld result }
+{
+    Point { x: 1, y: 1, z: 1 }
+}
 
 fn point(x: i32, y: i32, z: i32) -> Point {
     Point { x, y, z }
@@ -19,12 +44,16 @@ fn box_between(lo: Point, hi: Point) -> Ask {
 
 #[test]
 fn the_first_thing_wrong_from_left_to_right_is_the_fault(rt: HostRuntime) {
-    let rows: [(&str, u32, LineFault); 23] = [
+    let rows: [(&str, u32, LineFault); 27] = [
         ("frob 1", 1, LineFault::UnknownWord),
         ("frob a", 1, LineFault::UnknownWord),
         ("boxes 0 0 0 0 0 0", 1, LineFault::UnknownWord),
         ("Work", 1, LineFault::UnknownWord),
-        ("seg 1 1 -1 1 1 1", 1, LineFault::UnknownWord),
+        ("Seg 1 1 -1 1 1 1", 1, LineFault::UnknownWord),
+        ("groups 1", 1, LineFault::WrongCount),
+        ("seg 1 2 3", 1, LineFault::WrongCount),
+        ("seg 0 0 131072 a 0 0", 1, LineFault::OutOfRange),
+        ("seg 0 0 0 0 -131073 0", 1, LineFault::OutOfRange),
         ("box a 0 0 0 0", 1, LineFault::WrongCount),
         ("box 0 0 0 0 0 0 0", 1, LineFault::WrongCount),
         ("node", 1, LineFault::WrongCount),
@@ -74,9 +103,18 @@ fn blank_lines_and_comments_ask_nothing(rt: HostRuntime) {
 
 #[test]
 fn words_and_numbers_become_asks(rt: HostRuntime) {
-    let rows: [(&str, u32, Ask); 7] = [
+    let rows: [(&str, u32, Ask); 9] = [
         ("work", 1, Ask::Work),
         ("\twork\r", 1, Ask::Work),
+        ("groups", 1, Ask::Groups),
+        (
+            "seg -2048 1.5 -0.0078125 2047.99 0 0",
+            64,
+            Ask::Seg {
+                p: point(-131072, 96, 0),
+                q: point(131071, 0, 0),
+            },
+        ),
         ("node 007", 1, Ask::NodeOf { number: 7 }),
         (
             "node 999999999999999999999999",
@@ -147,6 +185,38 @@ fn each_reply_is_one_line_of_words(rt: HostRuntime) -> Result<(), Fail> {
         "overlaps 3: 3 14 1048576\n",
     );
 
+    let first = GroupCount {
+        name: Name::new(Vec::from_slice(alloc, b"Floor")?),
+        count: 2,
+    };
+    let second = GroupCount {
+        name: Name::new(Vec::from_slice(alloc, b"Ramp")?),
+        count: 0,
+    };
+    let mut groups = Vec::new(alloc);
+    is_written(
+        &rt,
+        alloc,
+        &Reply::GroupsAre(GroupList::new(Vec::new(alloc))),
+        "groups 0\n",
+    );
+    groups.push(first).map_err(|_| "no room for a group")?;
+    groups.push(second).map_err(|_| "no room for a group")?;
+    is_written(
+        &rt,
+        alloc,
+        &Reply::GroupsAre(GroupList::new(groups)),
+        "groups 2: Floor 2 Ramp 0\n",
+    );
+
+    let struck = hit(below(), above(), &TRIANGLE).ok_or("no hit")?;
+    let told = Reply::Hit {
+        tri: 7,
+        at: HitFraction::new(struck),
+    };
+    is_written(&rt, alloc, &told, "hit 7 1/2\n");
+    is_written(&rt, alloc, &Reply::Miss, "miss\n");
+
     let node = Node {
         first: 0,
         last: 11,
@@ -181,4 +251,21 @@ fn a_refusal_names_its_line_and_reason(rt: HostRuntime) {
     }
     assert!(rt; !is_refused(&Reply::WorkIs(1)));
     assert_eq!(rt; fault_text(LineFault::NoSuchNode), "no such node");
+}
+
+#[test]
+fn a_refused_mesh_line_has_its_reason(rt: HostRuntime) {
+    let rows: [(Why, &str); 8] = [
+        (Why::NotANumber, "not a number"),
+        (Why::NumberTooLong, "number too long"),
+        (Why::Outside, "outside the world"),
+        (Why::TooFewWords, "too few words"),
+        (Why::BadReference, "bad reference"),
+        (Why::NoSuchVertex, "no such vertex"),
+        (Why::TooManyVertices, "too many vertices"),
+        (Why::TooManyTriangles, "too many triangles"),
+    ];
+    for (why, text) in rows {
+        assert_eq!(rt; why_text(why), text);
+    }
 }

@@ -1,20 +1,27 @@
 //! The texts of replies, byte for byte: words with one space between two of them, and a line feed.
 
 ghost use Rattle.std.specs.Prelude.{◌≡◌, ◌++◌, [], ◌∷◌, IfOk, OnOk, codes, map, decimal};
-ghost use Rattle.query_script.specs.Replies.{reply_text, line_of, refusal_text, fault_text, spaced, counted_words, point_words, box_words, range_words, node_words, is_refused};
+ghost use Rattle.segment_hit.specs.HitOf.{ratio_of};
+ghost use Rattle.query_script.specs.Replies.{reply_text, line_of, refusal_text, spaced, counted_words, group_words, tally_words, ratio_word, point_words, box_words, range_words, node_words, is_refused};
 
 use crate::faults::LineFault;
+use crate::fractions::HitFraction;
+use crate::groups::GroupCount;
+use crate::reasons::fault_text;
 use crate::replies::Reply;
 use fixed_box::{Box3, Point};
 use itoa::{Buffer, Integer};
 use outside::Memory;
 use radix_tree::Node;
+use segment_hit::Frac;
 use std::alloc::{AllocError, Global};
 
 /// The text of the reply to the line of this number, with its line feed; no byte for `Nothing`.
 ///
 /// - `Overlaps`: `overlaps K: n1 n2 n3` with the count and the numbers, or `overlaps 0`;
+/// - `Hit`: `hit T N/D` with the triangle's number and the fraction; `Miss`: `miss`;
 /// - `NodeIs`: `node`, the number, first and last position, split, and the coordinates of the box's corners;
+/// - `GroupsAre`: `groups K: name1 count1 name2 count2` with the count of groups, or `groups 0`;
 /// - `WorkIs`: `work` and the count;
 /// - `Refused`: `line N: ` with the line's number and the reason (`fault_text`).
 pub fn reply_text(alloc: Global, line: u32, reply: &Reply) -> Result<Vec<u8>, Memory>
@@ -33,7 +40,10 @@ fn add_reply(text: &mut Vec<u8>, line: u32, reply: &Reply) -> Result<(), AllocEr
     match reply {
         Reply::Nothing => Ok(()),
         Reply::Overlaps(numbers) => add_overlaps(text, numbers.items()),
+        Reply::Hit { tri, at } => add_hit(text, *tri, at),
+        Reply::Miss => text.extend_from_slice(b"miss\n"),
         Reply::NodeIs { number, node } => add_node(text, *number, node),
+        Reply::GroupsAre(groups) => add_groups(text, groups.items()),
         Reply::WorkIs(work) => add_work(text, *work),
         Reply::Refused(fault) => add_refusal(text, line, *fault),
     }
@@ -60,6 +70,25 @@ fn add_numbers(text: &mut Vec<u8>, numbers: &[u32]) -> Result<(), AllocError>
         add_number(text, *n)?;
     }
     Ok(())
+}
+
+fn add_hit(text: &mut Vec<u8>, tri: u32, at: &HitFraction) -> Result<(), AllocError>
+    ensures { OnOk result (text.new.items ≡ text.old.items
+        ++ line_of (codes "hit") (decimal tri ∷ ratio_word at.now ∷ [])) }
+{
+    text.extend_from_slice(b"hit")?;
+    add_number(text, tri)?;
+    add_fraction(text, &at.frac())?;
+    text.extend_from_slice(b"\n")
+}
+
+#[tactic(auto, unfolding(crate::specs::Replies::ratio_word))]
+fn add_fraction(text: &mut Vec<u8>, frac: &Frac) -> Result<(), AllocError>
+    ensures { OnOk result (text.new.items ≡ text.old.items ++ spaced (ratio_word (ratio_of frac.now) ∷ [])) }
+{
+    add_number(text, frac.num)?;
+    text.extend_from_slice(b"/")?;
+    add_digits(text, frac.den)
 }
 
 fn add_node(text: &mut Vec<u8>, number: u64, node: &Node) -> Result<(), AllocError>
@@ -102,6 +131,37 @@ fn add_point(text: &mut Vec<u8>, point: &Point) -> Result<(), AllocError>
     add_number(text, point.z)
 }
 
+fn add_groups(text: &mut Vec<u8>, groups: &[GroupCount]) -> Result<(), AllocError>
+    ensures { OnOk result (text.new.items ≡ text.old.items
+        ++ line_of (codes "groups") (group_words groups.now)) }
+{
+    text.extend_from_slice(b"groups")?;
+    add_number(text, groups.len())?;
+    if !groups.is_empty() {
+        text.extend_from_slice(b":")?;
+        add_tallies(text, groups)?;
+    }
+    text.extend_from_slice(b"\n")
+}
+
+/// Each name and each count behind a space.
+fn add_tallies(text: &mut Vec<u8>, groups: &[GroupCount]) -> Result<(), AllocError>
+    ensures { OnOk result (text.new.items ≡ text.old.items ++ spaced (tally_words groups.now)) }
+{
+    for group in groups {
+        add_tally(text, group)?;
+    }
+    Ok(())
+}
+
+fn add_tally(text: &mut Vec<u8>, group: &GroupCount) -> Result<(), AllocError>
+    ensures { OnOk result (text.new.items ≡ text.old.items ++ spaced (group.now.name ∷ decimal group.now.count ∷ [])) }
+{
+    text.extend_from_slice(b" ")?;
+    text.extend_from_slice(group.name.bytes())?;
+    add_number(text, group.count)
+}
+
 fn add_work(text: &mut Vec<u8>, work: u64) -> Result<(), AllocError>
     ensures { OnOk result (text.new.items ≡ text.old.items ++ line_of (codes "work") (decimal work ∷ [])) }
 {
@@ -114,8 +174,14 @@ fn add_work(text: &mut Vec<u8>, work: u64) -> Result<(), AllocError>
 fn add_number<I: Integer>(text: &mut Vec<u8>, n: I) -> Result<(), AllocError>
     ensures { OnOk result (text.new.items ≡ text.old.items ++ (codes " " ++ I.text n)) }
 {
-    let mut buffer = Buffer::new();
     text.extend_from_slice(b" ")?;
+    add_digits(text, n)
+}
+
+fn add_digits<I: Integer>(text: &mut Vec<u8>, n: I) -> Result<(), AllocError>
+    ensures { OnOk result (text.new.items ≡ text.old.items ++ I.text n) }
+{
+    let mut buffer = Buffer::new();
     text.extend_from_slice(buffer.format(n).as_bytes())
 }
 
@@ -127,21 +193,6 @@ fn add_refusal(text: &mut Vec<u8>, line: u32, fault: LineFault) -> Result<(), Al
     text.extend_from_slice(b": ")?;
     text.extend_from_slice(fault_text(fault).as_bytes())?;
     text.extend_from_slice(b"\n")
-}
-
-/// The reason of a refusal, as it is written behind `line N: `.
-pub fn fault_text(fault: LineFault) -> &'static str
-    ensures { result.now ≡ fault_text fault }
-{
-    match fault {
-        LineFault::UnknownWord => "unknown word",
-        LineFault::WrongCount => "wrong count of words",
-        LineFault::NotANumber => "not a number",
-        LineFault::NumberTooLong => "number too long",
-        LineFault::OutOfRange => "out of range",
-        LineFault::NoSuchNode => "no such node",
-        LineFault::LineTooLong => "line too long",
-    }
 }
 
 /// Whether the reply is a refusal.

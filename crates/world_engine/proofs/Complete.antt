@@ -1,16 +1,17 @@
 -- A run in which no device failed.
 use Rattle.std.proofs.Common.{◌≡◌, ◌⊎◌, inl, inr, ℕ, List, Option, None, Some, IfSome, refl, sym, subst}
 use Rattle.outside.specs.Files.{Files}
-use Rattle.world_engine.specs.Outputs.{Output, name_output, file_output}
+use Rattle.world_engine.specs.Outputs.{Output, opening_output, file_output}
+use Rattle.world_engine.specs.Words.{Opening}
 use Rattle.world_engine.specs.Runs.{Fulfils, IsComplete, IsAbsentMesh}
 use Rattle.world_engine.specs.declared.status.Status.{Status}
 use Rattle.world_engine.specs.declared.status.Status.TheVariants.{Done, Usage, MeshRefused, ReadFault, WriteFault, Memory, LinesRefused}
 
 -- a mesh that is not held gives a read fault
-pub absent_output : (named : Option (List ℕ)) (files : Option Files) (left : Option (List ℕ)) → IsAbsentMesh files named → IfSome (name_output named files left) (λ output. ReadFault ≡ output.status)
+pub absent_output : (named : Option Opening) (files : Option Files) (left : Option (List ℕ)) → IsAbsentMesh files named → IfSome (opening_output named files left) (λ output. ReadFault ≡ output.status)
 absent_output None files left h = absurd h
-absent_output (Some name) None left h = absurd h
-absent_output (Some name) (Some files) left h = subst (λ file. IfSome (file_output file left) (λ output. ReadFault ≡ output.status)) (sym h) refl
+absent_output (Some opening) None left h = absurd h
+absent_output (Some opening) (Some files) left h = subst (λ file. IfSome (file_output opening.unit file left) (λ output. ReadFault ≡ output.status)) (sym h) refl
 
 -- a status that comes only with its cause, where no cause is there
 complete_status : (o : Output) (status : Status) (old now : Option (List ℕ)) (H S K A : Type 0) → (A → ReadFault ≡ o.status) → (H → ⊥) → (S → ⊥) → (K → ⊥)

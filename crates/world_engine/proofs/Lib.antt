@@ -4,3 +4,5 @@ pub mod Stops
 pub mod RefusedMeshes
 pub mod Complete
 pub mod WorldBoxes
+pub mod GroupCounts
+pub mod OpenedWords

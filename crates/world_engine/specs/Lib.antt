@@ -4,5 +4,6 @@ pub mod Worlds
 pub mod Refusals
 pub mod Outputs
 pub mod Kept
+pub mod Grouping
 pub mod Runs
 pub mod Desks

@@ -9,11 +9,11 @@ use Rattle.obj_text.specs.Texts.{mesh_of, FaultyLine}
 use Rattle.obj_text.specs.declared.limits.TheConstants.{MOST_BYTES}
 use Rattle.world_engine.specs.declared.status.Status.{Status}
 use Rattle.world_engine.specs.declared.status.Status.TheVariants.{Done, Usage, MeshRefused, ReadFault, LinesRefused}
-use Rattle.world_engine.specs.declared.limits.TheConstants.{UNIT, SCRIPT_MOST}
+use Rattle.world_engine.specs.declared.limits.TheConstants.{SCRIPT_MOST}
 use Rattle.query_script.specs.declared.replies.Reply.{Reply}
 use Rattle.query_script.specs.Asks.{ask_of}
 use Rattle.query_script.specs.Replies.{reply_text, is_refused}
-use Rattle.world_engine.specs.Words.{mesh_name}
+use Rattle.world_engine.specs.Words.{Opening, opening_of}
 use Rattle.world_engine.specs.Worlds.{WorldState, world_of, reply_of, after}
 use Rattle.world_engine.specs.Refusals.{refusal_text}
 
@@ -53,23 +53,23 @@ script_output unit world script =
     if nat_lt SCRIPT_MOST (length script) then cut_output (replies_of unit world (ended_lines (take SCRIPT_MOST script))) else whole_output (replies_of unit world (lines_of script))
 
 -- the output over a text that is read as a mesh or refused at a line, as far as the script is told
-abbrev pub mesh_output : Result MeshLists FaultyLine → Option (List ℕ) → Option Output
-mesh_output (Err fault) script = Some (says (refusal_text fault) MeshRefused)
-mesh_output (Ok mesh) None = None
-mesh_output (Ok mesh) (Some script) = Some (script_output UNIT (world_of mesh) script)
+abbrev pub mesh_output : ℕ → Result MeshLists FaultyLine → Option (List ℕ) → Option Output
+mesh_output unit (Err fault) script = Some (says (refusal_text fault) MeshRefused)
+mesh_output unit (Ok mesh) None = None
+mesh_output unit (Ok mesh) (Some script) = Some (script_output unit (world_of mesh) script)
 
 -- the output over a mesh file, which may be none
-abbrev pub file_output : Option (List ℕ) → Option (List ℕ) → Option Output
-file_output None script = Some (says [] ReadFault)
-file_output (Some file) script =
-    if nat_lt MOST_BYTES (length file) then Some (says (codes "mesh too long\n") MeshRefused) else mesh_output (mesh_of UNIT file) script
+abbrev pub file_output : ℕ → Option (List ℕ) → Option (List ℕ) → Option Output
+file_output unit None script = Some (says [] ReadFault)
+file_output unit (Some file) script =
+    if nat_lt MOST_BYTES (length file) then Some (says (codes "mesh too long\n") MeshRefused) else mesh_output unit (mesh_of unit file) script
 
--- the output over a mesh name, which may be none
-abbrev pub name_output : Option (List ℕ) → Option Files → Option (List ℕ) → Option Output
-name_output None files script = Some (says (codes "bad command line\n") Usage)
-name_output (Some name) None script = None
-name_output (Some name) (Some files) script = file_output (get files name) script
+-- the output where there is an opening, or none
+abbrev pub opening_output : Option Opening → Option Files → Option (List ℕ) → Option Output
+opening_output None files script = Some (says (codes "bad command line\n") Usage)
+opening_output (Some opening) None script = None
+opening_output (Some opening) (Some files) script = file_output opening.unit (get files opening.name) script
 
 -- the output of words, files and a script, as far as what it depends on is told
 abbrev pub output_of : List (List ℕ) → Option Files → Option (List ℕ) → Option Output
-output_of words files script = name_output (mesh_name words) files script
+output_of words files script = opening_output (opening_of words) files script

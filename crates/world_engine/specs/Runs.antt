@@ -8,9 +8,9 @@ use Rattle.text_words.specs.Lines.{ended_lines}
 use Rattle.obj_text.specs.Meshes.{MeshLists}
 use Rattle.obj_text.specs.Texts.{mesh_of, FaultyLine}
 use Rattle.obj_text.specs.declared.limits.TheConstants.{MOST_BYTES}
-use Rattle.world_engine.specs.declared.limits.TheConstants.{UNIT}
 use Rattle.world_engine.specs.declared.status.Status.{Status}
 use Rattle.world_engine.specs.declared.status.Status.TheVariants.{Done, Usage, MeshRefused, ReadFault, WriteFault, Memory, LinesRefused}
+use Rattle.world_engine.specs.Words.{Opening}
 use Rattle.world_engine.specs.Worlds.{WorldState, world_of}
 use Rattle.world_engine.specs.Outputs.{Output, replies_of, texts_from}
 
@@ -35,14 +35,14 @@ abbrev pub IsComplete : Output → Status → Type 0
 IsComplete output status = (status ≡ Memory) ⊎ (status ≡ output.status)
 
 -- the shelf tells what it holds, and the mesh is not among it
-abbrev pub IsAbsentMesh : Option Files → Option (List ℕ) → Type 0
+abbrev pub IsAbsentMesh : Option Files → Option Opening → Type 0
 IsAbsentMesh files None = ⊥
-IsAbsentMesh files (Some name) = IsAbsent files name
+IsAbsentMesh files (Some opening) = IsAbsent files opening.name
 
--- what holds of the mesh file, which may be none, where a mesh is named and the shelf tells what it holds
-abbrev pub MeshIs : Option Files → Option (List ℕ) → (Option (List ℕ) → Type 0) → Type 0
+-- what holds of the mesh file, which may be none, at the unit, where a mesh is named and the shelf tells what it holds
+abbrev pub MeshIs : Option Files → Option Opening → (ℕ → Option (List ℕ) → Type 0) → Type 0
 MeshIs files None P = ⊥
-MeshIs files (Some name) P = FileIs files name P
+MeshIs files (Some opening) P = FileIs files opening.name (P opening.unit)
 
 -- the file is too long
 abbrev pub IsTooLong : List ℕ → Type 0
@@ -54,35 +54,43 @@ IsFaulty (Ok mesh) = ⊥
 IsFaulty (Err fault) = ⊤
 
 -- a file that is too long or has a faulty line
-abbrev pub IsRefusedFile : Option (List ℕ) → Type 0
-IsRefusedFile None = ⊥
-IsRefusedFile (Some file) = IsTooLong file ⊎ IsFaulty (mesh_of UNIT file)
+abbrev pub IsRefusedFile : ℕ → Option (List ℕ) → Type 0
+IsRefusedFile unit None = ⊥
+IsRefusedFile unit (Some file) = IsTooLong file ⊎ IsFaulty (mesh_of unit file)
 
 -- the shelf tells what it holds, and the mesh file is refused
-abbrev pub IsRefusedMesh : Option Files → Option (List ℕ) → Type 0
+abbrev pub IsRefusedMesh : Option Files → Option Opening → Type 0
 IsRefusedMesh files None = ⊥
-IsRefusedMesh None (Some name) = ⊥
-IsRefusedMesh (Some files) (Some name) = IsRefusedFile (get files name)
+IsRefusedMesh None (Some opening) = ⊥
+IsRefusedMesh (Some files) (Some opening) = IsRefusedFile opening.unit (get files opening.name)
+
+-- a world, and the grid steps to a unit of the script that asks it
+pub record Asked : Type 0 where
+  pub world : WorldState
+  pub unit : ℕ
+
+abbrev pub asked : ℕ → WorldState → Asked
+asked unit world = record { world = world; unit = unit }
 
 -- the world of a text that is a mesh
-abbrev pub world_in : Result MeshLists FaultyLine → Option WorldState
-world_in (Ok mesh) = Some (world_of mesh)
-world_in (Err fault) = None
+abbrev pub world_in : ℕ → Result MeshLists FaultyLine → Option Asked
+world_in unit (Ok mesh) = Some (asked unit (world_of mesh))
+world_in unit (Err fault) = None
 
 -- the world of a mesh file, which may be none; a file past its limit is refused before this matters
-abbrev pub world_of_file : Option (List ℕ) → Option WorldState
-world_of_file None = None
-world_of_file (Some file) = world_in (mesh_of UNIT file)
+abbrev pub world_of_file : ℕ → Option (List ℕ) → Option Asked
+world_of_file unit None = None
+world_of_file unit (Some file) = world_in unit (mesh_of unit file)
 
 -- the world that the named mesh opens, where the shelf tells what it holds
-abbrev pub world_of_name : Option Files → Option (List ℕ) → Option WorldState
-world_of_name files None = None
-world_of_name None (Some name) = None
-world_of_name (Some files) (Some name) = world_of_file (get files name)
+abbrev pub world_of_opening : Option Files → Option Opening → Option Asked
+world_of_opening files None = None
+world_of_opening None (Some opening) = None
+world_of_opening (Some files) (Some opening) = world_of_file opening.unit (get files opening.name)
 
 -- the replies to the lines that ended in these bytes
-abbrev pub replies_to_ended : WorldState → List ℕ → List ℕ
-replies_to_ended world bytes = texts_from 1 (replies_of UNIT world (ended_lines bytes))
+abbrev pub replies_to_ended : Asked → List ℕ → List ℕ
+replies_to_ended asked bytes = texts_from 1 (replies_of asked.unit asked.world (ended_lines bytes))
 
 -- the statuses after which the script was answered
 abbrev pub IsAnswered : Status → Type 0

@@ -1,20 +1,20 @@
--- Which lists of words are accepted, and the mesh that they name.
-use Rattle.std.specs.Prelude.{◌≡◌, ℕ, List, [], ◌∷◌, Option, None, Some, ◌==◌, if◌then◌else◌, map, string_bytes, String}
-use Rattle.std.specs.Borrow.{Bor}
-use Rattle.std.specs.Option.{option_map}
-use Rattle.std.specs.declared.alloc.Global.{Global}
+-- The mesh that a run opens, as its words say.
+use Rattle.std.specs.Prelude.{ℕ, List, [], Option, option_map, slice_index_or}
+use Rattle.command_line.specs.declared.plan.Plan.{Plan}
+use Rattle.command_line.specs.Plans.{plan_of, place_of}
 
--- the one word that names the mesh: it is not empty and does not begin with '-'
-abbrev pub mesh_name : List (List ℕ) → Option (List ℕ)
-mesh_name [] = None
-mesh_name ([] ∷ []) = None
-mesh_name ((b ∷ bs) ∷ []) = if b == 45 then None else Some (b ∷ bs)
-mesh_name (word ∷ other ∷ more) = None
+-- the name of the mesh file, and the grid steps to a unit of mesh and script
+pub record Opening : Type 0 where
+  pub name : List ℕ
+  pub unit : ℕ
 
--- the words' bytes
-abbrev pub texts_of : List (String Global) → List (List ℕ)
-texts_of words = map string_bytes words
+abbrev pub opening : List ℕ → ℕ → Opening
+opening name unit = record { name = name; unit = unit }
 
--- a text that was lent is the one that is named
-abbrev pub NamesAs : Option (Bor (List ℕ)) → Option (List ℕ) → Type 0
-NamesAs lent named = option_map (λ text. text.now) lent ≡ named
+-- what a plan opens: its mesh is the word at its place
+abbrev pub opened : List (List ℕ) → Plan → Opening
+opened words plan = opening (slice_index_or words (place_of plan.input) []) plan.unit
+
+-- what words open; where there is nothing, they are refused
+abbrev pub opening_of : List (List ℕ) → Option Opening
+opening_of words = option_map (opened words) (plan_of words)

@@ -1,5 +1,5 @@
 -- The world: what a state is, what an ask is answered in it, and the state after it.
-use Rattle.std.specs.Prelude.{ℕ, Bool, true, false, List, map, length, nat_lt, slice_index_or, if◌then◌else◌, pos, Result, Ok, Err}
+use Rattle.std.specs.Prelude.{ℕ, ◌+◌, Bool, true, false, List, [], ◌∷◌, map, length, count_by, ◌==◌, nat_lt, slice_index_or, if◌then◌else◌, pos, Option, None, Some, Result, Ok, Err}
 use Rattle.fixed_box.specs.Extent.{tri_box}
 use Rattle.fixed_box.specs.declared.shapes.Point.{Point}
 use Rattle.fixed_box.specs.declared.shapes.Box3.{Box3}
@@ -12,12 +12,14 @@ use Rattle.radix_tree.specs.declared.nodes.Node.{Node}
 use Rattle.radix_tree.specs.Table.{node_at}
 use Rattle.radix_tree.specs.Fit.{table_of}
 use Rattle.traversal.specs.Overlaps.{overlaps_of, work_of}
+use Rattle.traversal.specs.NearestOf.{NearestHit, nearest_of}
 use Rattle.query_script.specs.declared.asks.Ask.{Ask}
 use Rattle.query_script.specs.declared.asks.Ask.TheVariants as ask
 use Rattle.query_script.specs.declared.faults.LineFault.{LineFault}
 use Rattle.query_script.specs.declared.faults.LineFault.TheVariants.{NoSuchNode}
+use Rattle.query_script.specs.declared.groups.GroupCount.{GroupCount}
 use Rattle.query_script.specs.declared.replies.Reply.{Reply}
-use Rattle.query_script.specs.declared.replies.Reply.TheVariants.{Nothing, Overlaps, NodeIs, WorkIs, Refused}
+use Rattle.query_script.specs.declared.replies.Reply.TheVariants.{Nothing, Overlaps, Hit, Miss, NodeIs, GroupsAre, WorkIs, Refused}
 
 -- a state of the world: the mesh that opened it, the points now, those of the last build, and the last box query's work
 pub record WorldState : Type 0 where
@@ -40,11 +42,19 @@ point_at points position = slice_index_or points position (record { x = pos 0; y
 abbrev pub tri_of : List Point → Face → Tri
 tri_of points face = record { a = point_at points face.a; b = point_at points face.b; c = point_at points face.c }
 
--- the boxes of the triangles of these faces, in the order of their numbers
-abbrev pub boxes_at : List Point → List Face → List Box3
-boxes_at points faces = map (λ face. tri_box (tri_of points face)) faces
+-- the triangles of these faces, in the order of their numbers
+abbrev pub tris_at : List Point → List Face → List Tri
+tris_at points faces = map (tri_of points) faces
 
--- the boxes of the world's triangles
+-- and their boxes
+abbrev pub boxes_at : List Point → List Face → List Box3
+boxes_at points faces = map tri_box (tris_at points faces)
+
+-- the world's triangles
+abbrev pub tris_now : WorldState → List Tri
+tris_now world = tris_at world.now world.mesh.faces
+
+-- and their boxes
 abbrev pub boxes_now : WorldState → List Box3
 boxes_now world = boxes_at world.now world.mesh.faces
 
@@ -56,31 +66,57 @@ built_order world = order_of (boxes_at world.built world.mesh.faces)
 abbrev pub table : WorldState → List Node
 table world = table_of (built_order world) (boxes_now world)
 
+-- ---- the groups
+
+-- how many of the triangles are in the group at a place
+abbrev pub count_in : List ℕ → ℕ → ℕ
+count_in group_of place = count_by (λ p. p == place) group_of
+
+-- the groups from a place on, each with its count of triangles
+abbrev pub groups_from : ℕ → List (List ℕ) → List ℕ → List GroupCount
+groups_from place [] group_of = []
+groups_from place (name ∷ names) group_of = record { name = name; count = count_in group_of place } ∷ groups_from (place + 1) names group_of
+
+-- the names of the mesh's groups in their order, each with its count of triangles
+abbrev pub groups_of : MeshLists → List GroupCount
+groups_of mesh = groups_from 0 mesh.names mesh.group_of
+
 -- ---- asks
 
 -- the node of that number, or that there is none
 abbrev pub node_reply : List Node → ℕ → Reply
 node_reply nodes number = if nat_lt number (length nodes) then NodeIs number (node_at nodes number) else Refused NoSuchNode
 
+-- the nearest hit, or that there is none
+abbrev pub hit_reply : Option NearestHit → Reply
+hit_reply None = Miss
+hit_reply (Some hit) = Hit hit.number hit.at
+
 -- what an ask is answered
 abbrev pub reply_to : WorldState → Ask → Reply
 reply_to world ask.Nothing = Nothing
 reply_to world (ask.Overlap around) = Overlaps (overlaps_of (boxes_now world) around)
+reply_to world (ask.Seg p q) = hit_reply (nearest_of (tris_now world) p q)
 reply_to world (ask.NodeOf number) = node_reply (table world) number
+reply_to world ask.Groups = GroupsAre (groups_of world.mesh)
 reply_to world ask.Work = WorkIs world.work
 
 -- the state after an ask: a box query leaves its work behind
 abbrev pub state_after : WorldState → Ask → WorldState
 state_after world ask.Nothing = world
 state_after world (ask.Overlap around) = record world { work = work_of (built_order world) (boxes_now world) around }
+state_after world (ask.Seg p q) = world
 state_after world (ask.NodeOf number) = world
+state_after world ask.Groups = world
 state_after world ask.Work = world
 
 -- the ask takes no memory
 abbrev pub is_free : Ask → Bool
 is_free ask.Nothing = true
 is_free (ask.Overlap around) = false
+is_free (ask.Seg p q) = true
 is_free (ask.NodeOf number) = true
+is_free ask.Groups = false
 is_free ask.Work = true
 
 -- ---- lines

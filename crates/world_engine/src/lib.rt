@@ -5,8 +5,8 @@
 #![tactic(auto)]
 
 mod desk;
+mod grouping;
 mod limits;
-mod plans;
 mod refusals;
 mod runs;
 mod stages;
@@ -14,7 +14,7 @@ mod status;
 mod words;
 mod world;
 
-pub use plans::Build;
+pub use command_line::Build;
 pub use runs::run;
 pub use status::Status;
 pub use world::World;

@@ -2,9 +2,10 @@
 
 ghost use Rattle.std.specs.Prelude.{◌≡◌, IfOk};
 ghost use Rattle.obj_text.specs.Texts.{FaultyLine};
-ghost use Rattle.world_engine.specs.Refusals.{refusal_text, why_text};
+ghost use Rattle.world_engine.specs.Refusals.{refusal_text};
 
 use obj_text::Why;
+use query_script::why_text;
 use std::alloc::{AllocError, Global};
 
 /// Word that the mesh is refused at a line, with its line feed.
@@ -17,19 +18,4 @@ pub fn refusal_text(alloc: Global, line: u32, why: Why) -> Result<Vec<u8>, Alloc
     text.extend_from_slice(why_text(why).as_bytes())?;
     text.extend_from_slice(b"\n")?;
     Ok(text)
-}
-
-fn why_text(why: Why) -> &'static str
-    ensures { result.now ≡ why_text why }
-{
-    match why {
-        Why::NotANumber => "not a number",
-        Why::NumberTooLong => "number too long",
-        Why::Outside => "outside the world",
-        Why::TooFewWords => "too few words",
-        Why::BadReference => "bad reference",
-        Why::NoSuchVertex => "no such vertex",
-        Why::TooManyVertices => "too many vertices",
-        Why::TooManyTriangles => "too many triangles",
-    }
 }

@@ -8,14 +8,15 @@ ghost use Rattle.streams.specs.Taken.{Taken, Loses, LosesAtMost, IsPrompt};
 ghost use Rattle.obj_text.specs.Texts.{mesh_of, IsRefusalOf};
 ghost use Rattle.world_engine.specs.Refusals.{refusal_text};
 ghost use Rattle.world_engine.specs.Outputs.{script_output, mesh_output, says, status_of};
-ghost use Rattle.world_engine.specs.Runs.{Fulfils, IsFaulty, world_in, replies_to_ended, IsAnswered, IsUntouched};
+ghost use Rattle.world_engine.specs.Runs.{Fulfils, IsFaulty, world_in, replies_to_ended, asked, IsAnswered, IsUntouched};
 
 use crate::desk::Desk;
-use crate::limits::{SCRIPT_MOST, UNIT, WORKERS};
-use crate::plans::Build;
+use crate::limits::{SCRIPT_MOST, WORKERS_MOST};
 use crate::refusals::refusal_text;
 use crate::status::Status;
 use crate::world::World;
+use command_line::Plan;
+use fixed_box::UNIT_MAX;
 use obj_text::{MOST_BYTES, Mesh, MeshFault, Why, read_mesh};
 use outside::{Gate, Sink, Source};
 use std::alloc::Global;
@@ -50,17 +51,18 @@ fn status_of(refused: bool) -> Status
 fn answer_script<S: Source, K: Sink>(
     alloc: Global,
     world: World,
+    unit: u32,
     script: &mut S,
     out: &mut K,
 ) -> Status
-    ensures output { IfSome (S.left script.old) (λ bytes. Fulfils (script_output UNIT world bytes) result (K.written out.old) (K.written out.new)) }
+    ensures output { IfSome (S.left script.old) (λ bytes. Fulfils (script_output unit world bytes) result (K.written out.old) (K.written out.new)) }
     ensures usage { result ≢ Status.Usage }
     ensures mesh { result ≢ Status.MeshRefused }
     ensures read { result ≡ Status.ReadFault → Rose (S.faults script.old) (S.faults script.new) }
     ensures write { result ≡ Status.WriteFault → Rose (K.faults out.old) (K.faults out.new) }
     ensures partial { result ≡ Status.ReadFault → Taken (S.left script.old) (S.left script.new) (λ front.
-        Appends (K.written out.old) (K.written out.new) (replies_to_ended world front)) }
-    ensures prompt { result ≡ Status.WriteFault → IsPrompt (replies_to_ended world) (S.left script.old) (S.left script.new) (K.written out.old) (K.written out.new) }
+        Appends (K.written out.old) (K.written out.new) (replies_to_ended (asked unit world) front)) }
+    ensures prompt { result ≡ Status.WriteFault → IsPrompt (replies_to_ended (asked unit world)) (S.left script.old) (S.left script.new) (K.written out.old) (K.written out.new) }
     ensures taken { IsAnswered result → Loses (SCRIPT_MOST + 1) (S.left script.old) (S.left script.new) }
     ensures most { LosesAtMost (SCRIPT_MOST + 1) (S.left script.old) (S.left script.new) }
     ensures source { S.faults script.old ≤ S.faults script.new }
@@ -70,7 +72,7 @@ fn answer_script<S: Source, K: Sink>(
 {
     let desk = Desk {
         world,
-        unit: UNIT,
+        unit,
         refused: false,
     };
     match answer_lines(alloc, desk, script, out, SCRIPT_MOST) {
@@ -85,12 +87,14 @@ fn answer_script<S: Source, K: Sink>(
 }
 
 /// Reads the text of a mesh, and lets the text go.
-fn open_mesh(alloc: Global, text: Vec<u8>) -> Result<Mesh, MeshFault>
-    requires { length text.items ≤ MOST_BYTES }
-    ensures mesh { IfOk result (λ mesh. mesh_of UNIT text.items ≡ Ok mesh) }
-    ensures refusal { IfErr result (IsRefusalOf (mesh_of UNIT text.items)) }
+fn open_mesh(alloc: Global, text: Vec<u8>, unit: u32) -> Result<Mesh, MeshFault>
+    requires few { length text.items ≤ MOST_BYTES }
+    requires some_unit { 1 ≤ unit }
+    requires small_unit { unit ≤ UNIT_MAX }
+    ensures mesh { IfOk result (λ mesh. mesh_of unit text.items ≡ Ok mesh) }
+    ensures refusal { IfErr result (IsRefusalOf (mesh_of unit text.items)) }
 {
-    read_mesh(alloc, &text, UNIT)
+    read_mesh(alloc, &text, unit)
 }
 
 /// Opens the world of a mesh text and answers the script in it.
@@ -99,37 +103,42 @@ pub fn answer_mesh<R: Threads + Sync, S: Source, K: Sink, G: Gate>(
     gate: &G,
     alloc: Global,
     text: Vec<u8>,
+    plan: Plan,
     script: &mut S,
     out: &mut K,
 ) -> Status
-    requires { length text.items ≤ MOST_BYTES }
-    ensures output { IfSome (mesh_output (mesh_of UNIT text.items) (S.left script.old)) (λ output. Fulfils output result (K.written out.old) (K.written out.new)) }
+    requires few { length text.items ≤ MOST_BYTES }
+    requires some_workers { 1 ≤ plan.workers }
+    requires few_workers { plan.workers ≤ WORKERS_MOST }
+    requires some_unit { 1 ≤ plan.unit }
+    requires small_unit { plan.unit ≤ UNIT_MAX }
+    ensures output { IfSome (mesh_output plan.unit (mesh_of plan.unit text.items) (S.left script.old)) (λ output. Fulfils output result (K.written out.old) (K.written out.new)) }
     ensures usage { result ≢ Status.Usage }
-    ensures mesh { result ≡ Status.MeshRefused → IsFaulty (mesh_of UNIT text.items) }
+    ensures mesh { result ≡ Status.MeshRefused → IsFaulty (mesh_of plan.unit text.items) }
     ensures read { result ≡ Status.ReadFault → Rose (S.faults script.old) (S.faults script.new) }
     ensures write { result ≡ Status.WriteFault → Rose (K.faults out.old) (K.faults out.new) }
-    ensures partial { result ≡ Status.ReadFault → IfSome (world_in (mesh_of UNIT text.items)) (λ world. Taken (S.left script.old) (S.left script.new) (λ front.
+    ensures partial { result ≡ Status.ReadFault → IfSome (world_in plan.unit (mesh_of plan.unit text.items)) (λ world. Taken (S.left script.old) (S.left script.new) (λ front.
         Appends (K.written out.old) (K.written out.new) (replies_to_ended world front))) }
-    ensures prompt { result ≡ Status.WriteFault → IfSome (world_in (mesh_of UNIT text.items)) (λ world.
+    ensures prompt { result ≡ Status.WriteFault → IfSome (world_in plan.unit (mesh_of plan.unit text.items)) (λ world.
         IsPrompt (replies_to_ended world) (S.left script.old) (S.left script.new) (K.written out.old) (K.written out.new)) }
     ensures taken { IsAnswered result → Loses (SCRIPT_MOST + 1) (S.left script.old) (S.left script.new) }
     ensures most { LosesAtMost (SCRIPT_MOST + 1) (S.left script.old) (S.left script.new) }
     ensures refused { result ≡ Status.MeshRefused → IsUntouched (S.left script.old) (S.left script.new) (S.faults script.old) (S.faults script.new) }
-    ensures faulty { IsFaulty (mesh_of UNIT text.items) → IsUntouched (S.left script.old) (S.left script.new) (S.faults script.old) (S.faults script.new) }
+    ensures faulty { IsFaulty (mesh_of plan.unit text.items) → IsUntouched (S.left script.old) (S.left script.new) (S.faults script.old) (S.faults script.new) }
     ensures source { S.faults script.old ≤ S.faults script.new }
     ensures sink { K.faults out.old ≤ K.faults out.new }
     ensures source_kept { result ≢ Status.ReadFault → S.faults script.new ≡ S.faults script.old }
     ensures sink_kept { result ≢ Status.WriteFault → K.faults out.new ≡ K.faults out.old }
 {
-    let mesh = match open_mesh(alloc, text) {
+    let mesh = match open_mesh(alloc, text, plan.unit) {
         Ok(mesh) => mesh,
         Err(MeshFault::Line { line, why }) => return refuse_mesh(alloc, line, why, out),
         Err(MeshFault::Memory) => return Status::Memory,
     };
-    let Ok(world) = World::new(rt, alloc, mesh, Build::Karras, WORKERS, gate) else {
+    let Ok(world) = World::new(rt, alloc, mesh, plan.build, plan.workers, gate) else {
         return Status::Memory;
     };
-    answer_script(alloc, world, script, out)
+    answer_script(alloc, world, plan.unit, script, out)
 }
 
 /// Writes word that the mesh is refused at a line.

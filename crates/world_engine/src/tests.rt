@@ -4,10 +4,10 @@
 ghost use Rattle.std.specs.Prelude.{◌≤◌, length};
 
 use crate::{Build, Status, World, run};
-use fixed_box::{Box3, Point};
 use obj_text::read_mesh;
 use outside::{Failed, MemShelf, MemSink, MemSource, Name, OpenGate, Shelf, Source};
-use query_script::{Ask, reply_text};
+use query_script::{read_line, reply_text};
+use std::alloc::{AllocError, Global};
 use std::process::Abort;
 use std::test::Fail;
 use std::thread::Threads;
@@ -55,8 +55,25 @@ fn comes_to<R: Threads + Sync + Abort + AllocGlobal>(
     output: &[u8],
     name: &str,
 ) -> Result<(), Fail> {
+    words_come_to(rt, "level.obj", mesh, script, devices, status, output, name)
+}
+
+/// Runs the words of a line over a shelf that holds the mesh as `level.obj`, and compares status and output.
+fn words_come_to<R: Threads + Sync + Abort + AllocGlobal>(
+    rt: &R,
+    line: &str,
+    mesh: &[u8],
+    script: &[u8],
+    devices: &Devices,
+    status: Status,
+    output: &[u8],
+    name: &str,
+) -> Result<(), Fail> {
     let alloc = rt.alloc();
-    let words = vec![in alloc; String::from_str(alloc, "level.obj")?]?;
+    let mut words = Vec::new(alloc);
+    for word in line.split(' ') {
+        words.push(String::from_str(alloc, word)?)?;
+    }
     let mut shelf = MemShelf::new(
         Name::new(b"level.obj".to_vec(alloc)?),
         mesh.to_vec(alloc)?,
@@ -91,7 +108,7 @@ fn comes_to<R: Threads + Sync + Abort + AllocGlobal>(
 
 #[test]
 fn worked_scripts_are_answered_byte_for_byte(rt: HostRuntime) -> Result<(), Fail> {
-    let rows: [(&str, &[u8], &[u8], Status, &[u8]); 18] = [
+    let rows: [(&str, &[u8], &[u8], Status, &[u8]); 23] = [
         (
             "boxes touch where triangles do not",
             TRIANGLE,
@@ -102,9 +119,44 @@ fn worked_scripts_are_answered_byte_for_byte(rt: HostRuntime) -> Result<(), Fail
         (
             "a word that is not known",
             TRIANGLE,
-            b"seg 1 1 -1 1 1 1\n",
+            b"frob 1\n",
             Status::LinesRefused,
             b"line 1: unknown word\n",
+        ),
+        (
+            "segments through a triangle, at its edge and at their ends",
+            TRIANGLE,
+            b"seg 1 1 -1 1 1 1\nseg 2 2 -1 2 2 3\nseg 1 1 -1 1 1 0\nseg 1 1 0 1 1 5\n",
+            Status::Done,
+            b"hit 1 1/2\nhit 1 1/4\nhit 1 1/1\nhit 1 0/1\n",
+        ),
+        (
+            "segments past a triangle, and in its plane",
+            TRIANGLE,
+            b"seg 1 1 1 1 1 3\nseg 1 1 -3 1 1 -1\nseg -1 1 0 5 1 0\n",
+            Status::Done,
+            b"miss\nmiss\nmiss\n",
+        ),
+        (
+            "of triangles struck at one fraction the lowest number",
+            b"v 0 0 0\nv 4 0 0\nv 0 4 0\nf 1 2 3\nf 1 2 3\n",
+            b"seg 1 1 -1 1 1 1\n",
+            Status::Done,
+            b"hit 1 1/2\n",
+        ),
+        (
+            "an empty mesh has no hit and no group",
+            b"",
+            b"seg 0 0 0 1 1 1\nnode 0\ngroups\nwork\n",
+            Status::LinesRefused,
+            b"miss\nline 2: no such node\ngroups 0\nwork 0\n",
+        ),
+        (
+            "groups in the order of their first triangles, each with its own count",
+            b"g late\nv 0 0 0\nv 4 0 0\nv 0 4 0\ng zinc\nf 1 2 3\no\nf 1 2 3\ng zinc\nf 1 2 3 1\ng alum\nf 3 2 1\n",
+            b"groups\n",
+            Status::Done,
+            b"groups 3: zinc 3 default 1 alum 1\n",
         ),
         (
             "a faulty line of the mesh",
@@ -187,9 +239,9 @@ fn worked_scripts_are_answered_byte_for_byte(rt: HostRuntime) -> Result<(), Fail
         (
             "each reason to refuse a line",
             TRIANGLE,
-            b"frob 1\nbox 1 2 3\nbox a 0 0 1 1 1\n# node\nbox 2147483648 0 0 0 0 0\nnode 0\nnode -1\nnode 1234567890123456789012345\nwork 1\n",
+            b"frob 1\nseg 1 2 3\nbox a 0 0 1 1 1\n# node\nbox 2147483648 0 0 0 0 0\nnode 0\nnode -1\nnode 1234567890123456789012345\nwork 1\nseg 0 0 0 0 0 2048\n",
             Status::LinesRefused,
-            b"line 1: unknown word\nline 2: wrong count of words\nline 3: not a number\nline 5: out of range\nline 6: no such node\nline 7: not a number\nline 8: number too long\nline 9: wrong count of words\n",
+            b"line 1: unknown word\nline 2: wrong count of words\nline 3: not a number\nline 5: out of range\nline 6: no such node\nline 7: not a number\nline 8: number too long\nline 9: wrong count of words\nline 10: out of range\n",
         ),
         (
             "a refused line leaves the work as it is",
@@ -219,6 +271,133 @@ fn worked_scripts_are_answered_byte_for_byte(rt: HostRuntime) -> Result<(), Fail
         }
     }
     Ok(())
+}
+
+#[test]
+fn words_choose_the_unit_or_are_refused(rt: HostRuntime) -> Result<(), Fail> {
+    let outside = b"mesh line 1: outside the world\n";
+    let rows: [(&str, &[u8], Status, &[u8]); 12] = [
+        (
+            "--unit 1 level.obj",
+            b"v 131071 0 0\n",
+            Status::Done,
+            b"work 0\n",
+        ),
+        (
+            "level.obj --unit=1",
+            b"v 131072 0 0\n",
+            Status::MeshRefused,
+            outside,
+        ),
+        ("level.obj", b"v 2047.98 0 0\n", Status::Done, b"work 0\n"),
+        (
+            "--unit=64 level.obj",
+            b"v 2048 0 0\n",
+            Status::MeshRefused,
+            outside,
+        ),
+        (
+            "level.obj --workers 64 --build karras",
+            TRIANGLE,
+            Status::Done,
+            b"work 0\n",
+        ),
+        (
+            "level.obj --workers 0",
+            TRIANGLE,
+            Status::Usage,
+            b"bad command line\n",
+        ),
+        (
+            "level.obj --unit +1",
+            TRIANGLE,
+            Status::Usage,
+            b"bad command line\n",
+        ),
+        (
+            "level.obj level.obj",
+            TRIANGLE,
+            Status::Usage,
+            b"bad command line\n",
+        ),
+        (
+            "-- level.obj",
+            TRIANGLE,
+            Status::Usage,
+            b"bad command line\n",
+        ),
+        ("--help", TRIANGLE, Status::Usage, b"bad command line\n"),
+        ("--grid 512", TRIANGLE, Status::Usage, b"bad command line\n"),
+        ("other.obj", TRIANGLE, Status::ReadFault, b""),
+    ];
+    for (line, mesh, status, output) in rows {
+        let devices = in_pieces(4096);
+        words_come_to(&rt, line, mesh, b"work\n", &devices, status, output, line)?;
+    }
+    Ok(())
+}
+
+#[test]
+fn the_script_has_the_unit_of_the_mesh(rt: HostRuntime) -> Result<(), Fail> {
+    words_come_to(
+        &rt,
+        "--unit 1 level.obj",
+        THREE,
+        b"node 1\nbox 104.5 4 0 200 9 0\nseg 301 1 -1 301 1 1\n",
+        &in_pieces(4096),
+        Status::Done,
+        b"node 1 0 1 0 0 0 0 104 4 0\noverlaps 1: 3\nmiss\n",
+        "three triangles at one step to a unit",
+    )
+}
+
+/// A text many times.
+fn many(alloc: Global, text: &[u8], count: usize) -> Result<Vec<u8>, AllocError> {
+    let mut all = Vec::new(alloc);
+    for _ in 0..count {
+        all.extend_from_slice(text)?;
+    }
+    Ok(all)
+}
+
+#[test]
+fn a_mesh_has_its_limits_of_vertices_and_triangles(rt: HostRuntime) -> Result<(), Fail> {
+    let alloc = rt.alloc();
+    let devices = in_pieces(65_536);
+    let vertices = many(alloc, b"v 0 0 0\n", 1_048_577)?;
+    let refused = b"mesh line 1048577: too many vertices\n";
+    comes_to(
+        &rt,
+        &vertices,
+        b"",
+        &devices,
+        Status::MeshRefused,
+        refused,
+        "vertices",
+    )?;
+
+    let mut fan = Vec::from_slice(alloc, b"v 0 0 0\nf")?;
+    fan.extend_from_slice(&many(alloc, b" 1", 1_048_578)?)?;
+    comes_to(
+        &rt,
+        &fan,
+        b"work\n",
+        &devices,
+        Status::Done,
+        b"work 0\n",
+        "triangles",
+    )?;
+    fan.extend_from_slice(b" 1")?;
+    let refused = b"mesh line 2: too many triangles\n";
+    comes_to(
+        &rt,
+        &fan,
+        b"",
+        &devices,
+        Status::MeshRefused,
+        refused,
+        "one triangle more",
+    )
 }
 
 #[test]
@@ -411,20 +590,22 @@ fn mesh_and_script_have_their_limits_to_the_byte(rt: HostRuntime) -> Result<(), 
     Ok(())
 }
 
-/// Asks the world, and compares the text of its reply.
+/// Asks the world what a line at one step to a unit asks, and compares the text of its reply.
 fn answers<R: Threads + Sync + Abort + AllocGlobal>(
     rt: &R,
     world: &mut World,
-    ask: &Ask,
+    line: &str,
     text: &[u8],
-    name: &str,
 ) -> Result<(), Fail> {
     let alloc = rt.alloc();
+    let Ok(ask) = read_line(line.as_bytes(), 1) else {
+        panic!(rt; "{line} is refused");
+    };
     let reply = world
-        .answer(rt, alloc, &OpenGate, ask)
+        .answer(rt, alloc, &OpenGate, &ask)
         .map_err(|_| "no memory for a reply")?;
     let got = reply_text(alloc, 1, &reply).map_err(|_| "no memory for a text")?;
-    assert!(rt; got.as_slice() == text, "{name}");
+    assert!(rt; got.as_slice() == text, "{line}");
     Ok(())
 }
 
@@ -435,29 +616,19 @@ fn a_world_is_asked_without_a_script(rt: HostRuntime) -> Result<(), Fail> {
     let mut world = World::new(&rt, alloc, mesh, Build::Karras, 64, &OpenGate).map_err(
         |_| "no memory for the world",
     )?;
-    let around = Box3::of_corners(Point { x: 104, y: 4, z: 0 }, Point { x: 200, y: 9, z: 0 });
-    let rows: [(&str, Ask, &[u8]); 6] = [
-        (
-            "a node",
-            Ask::NodeOf { number: 1 },
-            b"node 1 0 1 0 0 0 0 104 4 0\n",
-        ),
-        ("a box", Ask::Overlap { around }, b"overlaps 2: 2 3\n"),
-        (
-            "no such node",
-            Ask::NodeOf { number: 2 },
-            b"line 1: no such node\n",
-        ),
-        (
-            "a number past all",
-            Ask::NodeOf { number: 1 << 40 },
-            b"line 1: no such node\n",
-        ),
-        ("the work of the box", Ask::Work, b"work 5\n"),
-        ("nothing", Ask::Nothing, b""),
+    let rows: [(&str, &[u8]); 9] = [
+        ("node 1", b"node 1 0 1 0 0 0 0 104 4 0\n"),
+        ("box 104 4 0 200 9 0", b"overlaps 2: 2 3\n"),
+        ("node 2", b"line 1: no such node\n"),
+        ("node 1099511627776", b"line 1: no such node\n"),
+        ("work", b"work 5\n"),
+        ("seg 101 1 -1 101 1 1", b"hit 2 1/2\n"),
+        ("seg 301 1 -1 301 1 1", b"miss\n"),
+        ("groups", b"groups 1: default 3\n"),
+        ("# nothing", b""),
     ];
-    for (name, ask, text) in rows {
-        answers(&rt, &mut world, &ask, text, name)?;
+    for (line, text) in rows {
+        answers(&rt, &mut world, line, text)?;
     }
     Ok(())
 }

@@ -1,17 +1,48 @@
-//! The words of the command line.
+//! The words of the command line, as a run takes them.
 
-ghost use Rattle.world_engine.specs.Words.{mesh_name, texts_of, NamesAs};
+ghost use Rattle.std.specs.Prelude.{◌≡◌, ◌≤◌, ◌<◌, [], Some, None, IfOk, IfErr, length, slice_index_or};
+ghost use Rattle.fixed_box.specs.declared.shapes.TheConstants.{UNIT_MAX};
+ghost use Rattle.command_line.specs.Items.{texts_of};
+ghost use Rattle.command_line.specs.Plans.{place_of};
+ghost use Rattle.world_engine.specs.Words.{opening, opening_of};
 
-/// The one word that names the mesh, where the words are that word alone.
-pub fn mesh_name(words: &[String]) -> Option<&str>
-    ensures { NamesAs result (mesh_name (texts_of words.now)) }
+use crate::limits::WORKERS_MOST;
+use command_line::{Input, Plan, WordsFault, read_words};
+use std::alloc::Global;
+
+/// What a run opens: the mesh file of this name, by the plan.
+#[derive(Drop)]
+pub struct Opening<'a> {
+    pub name: &'a str,
+    pub plan: Plan,
+}
+
+/// What the words say is to be opened.
+#[tactic(auto, using(crate::proofs::OpenedWords::plan_opens, crate::proofs::OpenedWords::opens_nothing))]
+pub fn read_opening<'a>(alloc: Global, words: &'a [String]) -> Result<Opening<'a>, WordsFault>
+    ensures opening { IfOk result (λ found. Some (opening found.name.now found.plan.unit) ≡ opening_of (texts_of words.now)) }
+    ensures usage { IfErr result (λ fault. fault ≡ WordsFault.Usage → opening_of (texts_of words.now) ≡ None) }
+    ensures some_workers { IfOk result (λ found. 1 ≤ found.plan.workers) }
+    ensures few_workers { IfOk result (λ found. found.plan.workers ≤ WORKERS_MOST) }
+    ensures some_unit { IfOk result (λ found. 1 ≤ found.plan.unit) }
+    ensures small_unit { IfOk result (λ found. found.plan.unit ≤ UNIT_MAX) }
 {
-    if words.len() != 1 {
-        return None;
+    match read_words(alloc, words) {
+        Ok(plan) => Ok(Opening {
+            name: named(words, plan.input),
+            plan,
+        }),
+        Err(fault) => Err(fault),
     }
-    let word = words[0].as_str();
-    if word.is_empty() || word.as_bytes()[0] == b'-' {
-        return None;
+}
+
+/// The word that names the mesh.
+#[tactic(auto, using(crate::proofs::OpenedWords::word_text))]
+fn named(words: &[String], input: Input) -> &str
+    requires { place_of input < length words.now }
+    ensures { result.now ≡ slice_index_or (texts_of words.now) (place_of input) [] }
+{
+    match input {
+        Input::File(place) => words[place as usize].as_str(),
     }
-    Some(word)
 }

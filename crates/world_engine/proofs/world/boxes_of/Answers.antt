@@ -1,10 +1,10 @@
-use Rattle.std.proofs.Common.{◌≡◌, ◌∙◌, All, ap, subst, sym, take_all}
+use Rattle.std.proofs.Common.{◌≡◌, ◌∙◌, All, ap, subst, sym, map, take_all}
+use Rattle.fixed_box.specs.Extent.{tri_box}
 use Rattle.fixed_box.specs.World.{BoxInWorld}
-use Rattle.world_engine.specs.Worlds.{boxes_at}
 use Rattle.world_engine.proofs.WorldBoxes.{boxes_in_world}
 use Rattle.world_engine.proofs.world.boxes_of.Goals as goal
 
 pub returns-clause-world : goal.returns-clause-world
 returns-clause-world c =
-    let all : c.loop-face.boxes.items ≡ boxes_at c.args.points.now c.args.faces.now = c.loop-face.invariant ∙ ap (boxes_at c.args.points.now) (take_all c.loop-face.face-index c.args.faces.now c.loop-face-test.false) in
-    subst (All BoxInWorld) (sym all) (boxes_in_world c.args.points.now c.args.faces.now c.requires.world c.requires.named)
+    let all : c.loop-tri.boxes.items ≡ map tri_box c.args.tris.now = c.loop-tri.invariant ∙ ap (map tri_box) (take_all c.loop-tri.tri-index c.args.tris.now c.loop-tri-test.false) in
+    subst (All BoxInWorld) (sym all) (boxes_in_world c.args.tris.now c.requires)

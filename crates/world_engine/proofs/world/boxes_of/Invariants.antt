@@ -1,6 +1,6 @@
-use Rattle.std.proofs.Common.{◌≡◌, take}
-use Rattle.world_engine.specs.Worlds.{boxes_at}
+use Rattle.std.proofs.Common.{◌≡◌, map, take}
+use Rattle.fixed_box.specs.Extent.{tri_box}
 use Rattle.world_engine.proofs.world.boxes_of.Given as goal
 
-abbrev pub invariant-loop-face : goal.invariant-loop-face
-invariant-loop-face l = l.boxes.items ≡ boxes_at l.points (take l.face-index l.faces)
+abbrev pub invariant-loop-tri : goal.invariant-loop-tri
+invariant-loop-tri l = l.boxes.items ≡ map tri_box (take l.tri-index l.tris)

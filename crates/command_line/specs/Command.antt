@@ -1,0 +1,23 @@
+-- The one command of `clap` that the words go through: an optional positional, and four options that take one value as text.
+use Rattle.std.specs.Prelude.{true, None, Some, codes}
+use Rattle.clap.specs.Walk.{Rule, Text}
+use Rattle.clap.specs.Simple.{App, new_app, new_rule, on_top, with_rule}
+use Rattle.clap.specs.declared.builder.action.ArgAction.TheVariants.{Set}
+use Rattle.command_line.specs.declared.names.Name.{Name}
+use Rattle.command_line.specs.declared.names.Name.TheVariants as name
+use Rattle.command_line.specs.Uses.{key_text}
+
+abbrev pub mesh_given : Rule
+mesh_given = record (new_rule (key_text None)) { action = Some Set }
+
+abbrev pub named_given : Text → Rule
+named_given text = record (new_rule text) { long = Some text; action = Some Set }
+
+abbrev pub option_given : Name → Rule
+option_given n = named_given (key_text (Some n))
+
+abbrev pub no_arguments : App
+no_arguments = on_top (λ s. record s { no_binary_name = true; disable_help_flag = true; disable_version_flag = true }) (new_app (codes "cedarjack"))
+
+abbrev pub one_command : App
+one_command = with_rule (with_rule (with_rule (with_rule (with_rule no_arguments mesh_given) (option_given name.Grid)) (option_given name.Workers)) (option_given name.Build)) (option_given name.Unit)

@@ -1,0 +1,76 @@
+//! The plan of what a parse finds.
+
+ghost use Rattle.std.specs.Prelude.{◌≡◌, option_map};
+ghost use Rattle.clap.specs.Words.{found_of, rows_of};
+ghost use Rattle.command_line.specs.Values.{number_in, build_of};
+ghost use Rattle.command_line.specs.Uses.{is_mesh, plan_from, read_or, row_plan};
+
+use crate::limits::{MOST_WORKERS, UNIT, WORKERS};
+use crate::place::starts_minus;
+use crate::plan::{Build, Input, Plan};
+use crate::values::{build_of, number_in};
+use clap::ArgMatches;
+use fixed_box::UNIT_MAX;
+
+/// The plan of what a parse finds, with the MESH word at a place.
+pub fn row_plan(place: Option<u32>, matches: &ArgMatches) -> Option<Plan>
+    ensures { result ≡ row_plan place (rows_of (found_of matches.now)) }
+{
+    plan_from(
+        place,
+        matches.get_str("mesh"),
+        matches.get_str("grid"),
+        matches.get_str("workers"),
+        matches.get_str("build"),
+        matches.get_str("unit"),
+    )
+}
+
+fn plan_from(
+    place: Option<u32>,
+    mesh: Option<&str>,
+    grid: Option<&str>,
+    workers: Option<&str>,
+    build: Option<&str>,
+    unit: Option<&str>,
+) -> Option<Plan>
+    ensures { result ≡ plan_from place (option_map (λ s. s.now) mesh.entry) (option_map (λ s. s.now) grid.entry) (option_map (λ s. s.now) workers.entry)
+        (option_map (λ s. s.now) build.entry) (option_map (λ s. s.now) unit.entry) }
+{
+    let place = place?;
+    let mesh = mesh?;
+    if grid.is_some() || !is_mesh(mesh.as_bytes()) {
+        return None;
+    }
+    Some(Plan {
+        input: Input::File(place),
+        workers: number_or(WORKERS, workers, MOST_WORKERS)?,
+        build: build_or(Build::Karras, build)?,
+        unit: number_or(UNIT, unit, UNIT_MAX)?,
+    })
+}
+
+/// Whether a word names a mesh.
+fn is_mesh(word: &[u8]) -> bool
+    ensures { result ≡ is_mesh word.now }
+{
+    !matches!(word, [] | [b'-', ..])
+}
+
+fn number_or(default: u32, text: Option<&str>, most: u32) -> Option<u32>
+    ensures { result ≡ read_or default (number_in 1 most) (option_map (λ s. s.now) text.entry) }
+{
+    match text {
+        Some(text) => number_in(text.as_bytes(), 1, most),
+        None => Some(default),
+    }
+}
+
+fn build_or(default: Build, text: Option<&str>) -> Option<Build>
+    ensures { result ≡ read_or default build_of (option_map (λ s. s.now) text.entry) }
+{
+    match text {
+        Some(text) => build_of(text.as_bytes()),
+        None => Some(default),
+    }
+}
