@@ -6,3 +6,4 @@ pub mod Complete
 pub mod WorldBoxes
 pub mod GroupCounts
 pub mod OpenedWords
+mod Examples
