@@ -208,8 +208,11 @@ class Program:
 
 def compare_words(program):
     """Lists of words that are accepted, and lists that are not."""
+    # no vertex, so that no unit can put one outside the world
+    empty = os.path.join(os.path.dirname(program.probe), "empty.obj")
+    open(empty, "wb").close()
     for words, accepted in [(words, True) for words in ACCEPTED] + [(words, False) for words in REFUSED]:
-        options = [program.probe if word == "MESH" else word for word in words.split()]
+        options = [empty if word == "MESH" else word for word in words.split()]
         done = subprocess.run([program.path, *options], input=b"", capture_output=True, check=False)
         program.compared += 1
         if (done.stdout, done.returncode) != ((b"", oracle.DONE) if accepted else (b"bad command line\n", oracle.USAGE)):

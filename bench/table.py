@@ -3,7 +3,7 @@
 
     python3 bench/table.py [--program PATH] [--yardstick PATH] [--runs N] [--wall] [--workers W]
 
-The meshes are height fields of 8,192, 131,072 and 524,288 triangles, the scripts 20,000 small boxes and 100,000 segments;
+The meshes are height fields of 8,192, 131,072 and 524,288 triangles, the scripts 20,000 small boxes and 4,000 segments;
 all are made here, the same at each run. The yardstick is ../shared/bench/yardstick.rs, the same kind of index in plain
 Rust with no proof, at as many threads; rustc builds it. Both programs run in turn, N times (three times as often over the
 smallest mesh), and their replies are compared. Where the yardstick is missing the table has the program's figures alone.
@@ -38,7 +38,7 @@ TOP = os.path.dirname(HERE)
 YARDSTICK = os.path.join(TOP, "..", "shared", "bench", "yardstick.rs")
 TIME = "/usr/bin/time"
 SIDES = (64, 256, 512)
-BOXES, SEGMENTS = 20_000, 100_000
+BOXES, SEGMENTS = 20_000, 4_000
 
 
 # ------------------------------------------------------------------------------------------------ meshes and scripts
