@@ -8,12 +8,12 @@ use Rattle.text_words.specs.Numbers.{starts_minus}
 use Rattle.fixed_box.specs.declared.shapes.TheConstants.{UNIT_MAX}
 use Rattle.command_line.specs.declared.limits.TheConstants.{MOST_DIGITS, LEAST_GRID, MOST_GRID, MOST_WORKERS, WORKERS, UNIT}
 use Rattle.command_line.specs.declared.fault.WordsFault.{WordsFault}
-use Rattle.command_line.specs.declared.names.Name.{Name}
-use Rattle.command_line.specs.declared.names.Name.TheVariants as name
-use Rattle.command_line.specs.declared.parts.Item.{Item}
-use Rattle.command_line.specs.declared.parts.Item.TheVariants as item
-use Rattle.command_line.specs.declared.parts.Part.{Part}
-use Rattle.command_line.specs.declared.parts.Part.TheVariants as part
+use Rattle.command_line.specs.Parts.{Name}
+use Rattle.command_line.specs.Parts.{Name as name}
+use Rattle.command_line.specs.Parts.{Item}
+use Rattle.command_line.specs.Parts.{Item as item}
+use Rattle.command_line.specs.Parts.{Part}
+use Rattle.command_line.specs.Parts.{Part as part}
 use Rattle.command_line.specs.declared.plan.Build.{Build}
 use Rattle.command_line.specs.declared.plan.Input.{Input}
 use Rattle.command_line.specs.declared.plan.Input.TheVariants.{File}

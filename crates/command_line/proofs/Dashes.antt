@@ -4,10 +4,10 @@ use Rattle.std.specs.Prelude.{option_and_then, codes}
 use Rattle.std.specs.Str.{bytes_eq}
 use Rattle.std.proofs.lemmas.Slice.Eq.{bytes_eq-Decides}
 use Rattle.clap.specs.Walk.{Text, Row}
-use Rattle.command_line.specs.declared.names.Name.{Name}
-use Rattle.command_line.specs.declared.parts.Item.{Item}
-use Rattle.command_line.specs.declared.parts.Part.{Part}
-use Rattle.command_line.specs.declared.parts.Part.TheVariants as part
+use Rattle.command_line.specs.Parts.{Name}
+use Rattle.command_line.specs.Parts.{Item}
+use Rattle.command_line.specs.Parts.{Part}
+use Rattle.command_line.specs.Parts.{Part as part}
 use Rattle.command_line.specs.Items.{part_of, joined, items_from}
 use Rattle.command_line.specs.Plans.{item_plan, plan_of}
 use Rattle.command_line.specs.Uses.{found, has_dashes, mesh_from, row_plan}

@@ -3,11 +3,11 @@ use Rattle.std.proofs.Common.{◌≡◌, ℕ, ◌+◌, ◌*◌, ◌≤◌, ◌<�
 use Rattle.std.specs.Prelude.{option_and_then, filter_map}
 use Rattle.text_words.specs.Numbers.{starts_minus}
 use Rattle.command_line.specs.declared.limits.TheConstants.{MOST_WORDS}
-use Rattle.command_line.specs.declared.names.Name.{Name}
-use Rattle.command_line.specs.declared.parts.Item.{Item}
-use Rattle.command_line.specs.declared.parts.Item.TheVariants.{Mesh, Grid, Workers, Build, Unit}
-use Rattle.command_line.specs.declared.parts.Part.{Part}
-use Rattle.command_line.specs.declared.parts.Part.TheVariants as part
+use Rattle.command_line.specs.Parts.{Name}
+use Rattle.command_line.specs.Parts.{Item}
+use Rattle.command_line.specs.Parts.Item.{Mesh, Grid, Workers, Build, Unit}
+use Rattle.command_line.specs.Parts.{Part}
+use Rattle.command_line.specs.Parts.{Part as part}
 use Rattle.command_line.specs.declared.plan.Build.{Build as TheBuild}
 use Rattle.command_line.specs.declared.plan.Input.{Input}
 use Rattle.command_line.specs.declared.plan.Plan.{Plan}

@@ -7,11 +7,11 @@ use Rattle.std.proofs.lemmas.Bool.Decides.{Decides-ltb}
 use Rattle.text_words.specs.Numbers.{starts_minus}
 use Rattle.clap.specs.Lexer.{long_of, has_byte}
 use Rattle.clap.specs.Walk.{Text}
-use Rattle.command_line.specs.declared.names.Name.{Name}
-use Rattle.command_line.specs.declared.names.Name.TheVariants as name
-use Rattle.command_line.specs.declared.parts.Item.{Item}
-use Rattle.command_line.specs.declared.parts.Item.TheVariants as item
-use Rattle.command_line.specs.declared.parts.Part.TheVariants as part
+use Rattle.command_line.specs.Parts.{Name}
+use Rattle.command_line.specs.Parts.{Name as name}
+use Rattle.command_line.specs.Parts.{Item}
+use Rattle.command_line.specs.Parts.{Item as item}
+use Rattle.command_line.specs.Parts.{Part as part}
 use Rattle.command_line.specs.Values.{name_of, option_item}
 use Rattle.command_line.specs.Items.{whole_part, value_part, front_part, long_part, first_part, next_part, joined, items_from}
 use Rattle.command_line.specs.Uses.{Use, is_stray, long_cut, idle_cut, open_cut, cut, is_mesh}

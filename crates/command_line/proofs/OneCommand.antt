@@ -11,8 +11,8 @@ use Rattle.clap.proofs.OnLiterals.{clap_on_literals}
 use Rattle.command_line.specs.Command.{one_command, mesh_given, option_given}
 use Rattle.command_line.specs.Uses.{key_text}
 use Rattle.command_line.specs.Values.{name_of}
-use Rattle.command_line.specs.declared.names.Name.{Name}
-use Rattle.command_line.specs.declared.names.Name.TheVariants as name
+use Rattle.command_line.specs.Parts.{Name}
+use Rattle.command_line.specs.Parts.{Name as name}
 
 abbrev pub rule_at : Option Name → Rule
 rule_at None = with_index 1 (filled mesh_given)

@@ -16,8 +16,8 @@ use Rattle.clap.specs.Simple.{built, matches_of}
 use Rattle.clap.proofs.TakesLemmas.{leaf_takes}
 use Rattle.clap.proofs.FaultLemmas.{leaf_fault}
 use Rattle.clap.proofs.OnLiterals.{clap_on_literals}
-use Rattle.command_line.specs.declared.names.Name.{Name}
-use Rattle.command_line.specs.declared.names.Name.TheVariants as name
+use Rattle.command_line.specs.Parts.{Name}
+use Rattle.command_line.specs.Parts.{Name as name}
 use Rattle.command_line.specs.Command.{one_command}
 use Rattle.command_line.specs.Uses.{key_text, Use, use_row, rows, seen, is_stray, long_cut, idle_cut, open_cut, cut, ends, found}
 use Rattle.command_line.specs.Values.{name_of}

@@ -12,7 +12,7 @@ use Rattle.clap.specs.Faults.{use_fault, settle_fault, turn_fault, walk_fault}
 use Rattle.clap.specs.Takes.{use_passes, settle_passes, turn_passes, walk_passes}
 use Rattle.clap.specs.declared.parser.matches.ValueSource.TheVariants.{CommandLine}
 use Rattle.clap.proofs.OnLiterals.{clap_on_literals}
-use Rattle.command_line.specs.declared.names.Name.{Name}
+use Rattle.command_line.specs.Parts.{Name}
 use Rattle.command_line.specs.Command.{one_command}
 use Rattle.command_line.specs.Uses.{key_text, Use, use_row, rows, seen, is_stray, fresh, ends}
 use Rattle.command_line.specs.Values.{name_of}

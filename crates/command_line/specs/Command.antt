@@ -3,8 +3,8 @@ use Rattle.std.specs.Prelude.{true, None, Some, codes}
 use Rattle.clap.specs.Walk.{Rule, Text}
 use Rattle.clap.specs.Simple.{App, new_app, new_rule, on_top, with_rule}
 use Rattle.clap.specs.declared.builder.action.ArgAction.TheVariants.{Set}
-use Rattle.command_line.specs.declared.names.Name.{Name}
-use Rattle.command_line.specs.declared.names.Name.TheVariants as name
+use Rattle.command_line.specs.Parts.{Name}
+use Rattle.command_line.specs.Parts.{Name as name}
 use Rattle.command_line.specs.Uses.{key_text}
 
 abbrev pub mesh_given : Rule

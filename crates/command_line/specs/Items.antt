@@ -2,11 +2,11 @@
 use Rattle.std.specs.Prelude.{ℕ, ◌+◌, ◌==◌, List, [], ◌∷◌, take, drop, position, if◌then◌else◌, Option, None, Some, option_map, map, String, string_bytes}
 use Rattle.std.specs.declared.alloc.Global.{Global}
 use Rattle.text_words.specs.Numbers.{starts_minus}
-use Rattle.command_line.specs.declared.names.Name.{Name}
-use Rattle.command_line.specs.declared.parts.Item.{Item}
-use Rattle.command_line.specs.declared.parts.Item.TheVariants as item
-use Rattle.command_line.specs.declared.parts.Part.{Part}
-use Rattle.command_line.specs.declared.parts.Part.TheVariants as part
+use Rattle.command_line.specs.Parts.{Name}
+use Rattle.command_line.specs.Parts.{Item}
+use Rattle.command_line.specs.Parts.{Item as item}
+use Rattle.command_line.specs.Parts.{Part}
+use Rattle.command_line.specs.Parts.{Part as part}
 use Rattle.command_line.specs.Values.{name_of, option_item}
 
 -- ---- one word

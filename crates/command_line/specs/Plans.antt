@@ -1,8 +1,8 @@
 -- The plan that items make, where they keep the rules.
 use Rattle.std.specs.Prelude.{ℕ, ◌<◌, ◌≤◌, List, [], ◌∷◌, filter_map, Option, None, Some, option_and_then}
 use Rattle.fixed_box.specs.declared.shapes.TheConstants.{UNIT_MAX}
-use Rattle.command_line.specs.declared.parts.Item.{Item}
-use Rattle.command_line.specs.declared.parts.Item.TheVariants as item
+use Rattle.command_line.specs.Parts.{Item}
+use Rattle.command_line.specs.Parts.{Item as item}
 use Rattle.command_line.specs.declared.plan.Build.{Build}
 use Rattle.command_line.specs.declared.plan.Build.TheVariants.{Karras}
 use Rattle.command_line.specs.declared.plan.Input.{Input}

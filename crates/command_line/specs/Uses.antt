@@ -13,8 +13,8 @@ use Rattle.clap.specs.declared.parser.matches.ValueSource.TheVariants.{CommandLi
 use Rattle.clap.specs.declared.builder.value_parser.ValueParser.TheVariants as vp
 use Rattle.fixed_box.specs.declared.shapes.TheConstants.{UNIT_MAX}
 use Rattle.command_line.specs.declared.limits.TheConstants.{WORKERS, UNIT, MOST_WORKERS}
-use Rattle.command_line.specs.declared.names.Name.{Name}
-use Rattle.command_line.specs.declared.names.Name.TheVariants as name
+use Rattle.command_line.specs.Parts.{Name}
+use Rattle.command_line.specs.Parts.{Name as name}
 use Rattle.command_line.specs.declared.plan.Build.TheVariants.{Karras}
 use Rattle.command_line.specs.declared.plan.Input.TheVariants.{File}
 use Rattle.command_line.specs.declared.plan.Plan.{Plan}

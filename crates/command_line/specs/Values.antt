@@ -5,10 +5,10 @@ use Rattle.decimals.specs.Values.{whole_of}
 use Rattle.decimals.specs.declared.fault.NumberFault.{NumberFault}
 use Rattle.fixed_box.specs.declared.shapes.TheConstants.{UNIT_MAX}
 use Rattle.command_line.specs.declared.limits.TheConstants.{MOST_DIGITS, LEAST_GRID, MOST_GRID, MOST_WORKERS}
-use Rattle.command_line.specs.declared.names.Name.{Name}
-use Rattle.command_line.specs.declared.names.Name.TheVariants as name
-use Rattle.command_line.specs.declared.parts.Item.{Item}
-use Rattle.command_line.specs.declared.parts.Item.TheVariants as item
+use Rattle.command_line.specs.Parts.{Name}
+use Rattle.command_line.specs.Parts.{Name as name}
+use Rattle.command_line.specs.Parts.{Item}
+use Rattle.command_line.specs.Parts.{Item as item}
 use Rattle.command_line.specs.declared.plan.Build.{Build}
 use Rattle.command_line.specs.declared.plan.Build.TheVariants as build
 

@@ -9,8 +9,6 @@ mod command;
 mod fault;
 mod given;
 mod limits;
-mod names;
-mod parts;
 mod place;
 mod plan;
 mod read;
