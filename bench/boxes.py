@@ -1,6 +1,6 @@
 #!/usr/bin/env python3
 """Times small boxes over a rolling ground of 8,192, 100,352 and 524,288 triangles: the built program, whose walk
-prunes, beside a scan in plain Rust (boxes.rs) that tests every triangle's box. The replies are compared.
+prunes, beside a scan in plain Rust (scan.rs) that tests every triangle's box. The replies are compared.
 
 Usage, at the top of the repository, after `rt run` in crates/world_main: python3 bench/boxes.py [RUNS]
 A box's time is that of a script of boxes less that of an empty script, the median of RUNS runs in turn.
@@ -53,7 +53,7 @@ def main():
     runs = int(sys.argv[1]) if len(sys.argv) > 1 else 5
     folder = tempfile.mkdtemp()
     scan = os.path.join(folder, "scan")
-    subprocess.run(["rustc", "-C", "opt-level=3", "-o", scan, os.path.join(HERE, "boxes.rs")], check=True)
+    subprocess.run(["rustc", "-C", "opt-level=3", "-o", scan, os.path.join(HERE, "scan.rs")], check=True)
     print("triangles  open ms  walk us/box  scan us/box  walk/scan")
     for side in (64, 224, 512):
         mesh = os.path.join(folder, "ground.obj")
@@ -71,4 +71,5 @@ def main():
         print(f"{2 * side * side:9}  {1e3 * statistics.median(opened):7.1f}  {1e6 * walk:11.2f}  {1e6 * test:11.2f}  {walk / test:9.4f}")
 
 
-main()
+if __name__ == "__main__":
+    main()
