@@ -15,6 +15,7 @@ mod read;
 mod values;
 
 pub use fault::WordsFault;
+pub use limits::MOST_WORKERS;
 pub use plan::{Build, Input, Plan};
 pub use read::read_words;
 

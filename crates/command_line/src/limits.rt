@@ -3,14 +3,16 @@
 /// The most digits of a number, leading zeros counted.
 pub const MOST_DIGITS: usize = 6;
 
-/// The least and the greatest number of cells along a side of the large workload.
+/// The least number of cells along a side of the large workload.
 pub const LEAST_GRID: u32 = 2;
 
+/// The greatest number of such cells.
 pub const MOST_GRID: u32 = 512;
 
-/// The most workers, and how many there are where no word says so.
+/// The most workers that may build a world.
 pub const MOST_WORKERS: u32 = 64;
 
+/// How many there are where no word says so.
 pub const WORKERS: u32 = 4;
 
 /// Grid steps to one unit of the mesh and of the script, where no word says so.

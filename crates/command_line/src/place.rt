@@ -39,6 +39,7 @@ pub fn mesh_place(words: &[String]) -> Option<u32>
     None
 }
 
+/// Whether the text begins with `-`.
 pub fn starts_minus(text: &[u8]) -> bool
     ensures { result ≡ starts_minus text.now }
 {

@@ -11,11 +11,11 @@ ghost use Rattle.world_engine.specs.Outputs.{script_output, mesh_output, says, s
 ghost use Rattle.world_engine.specs.Runs.{Fulfils, IsFaulty, world_in, replies_to_ended, asked, IsAnswered, IsUntouched};
 
 use crate::desk::Desk;
-use crate::limits::{SCRIPT_MOST, WORKERS_MOST};
+use crate::limits::SCRIPT_MOST;
 use crate::refusals::refusal_text;
 use crate::status::Status;
 use crate::world::World;
-use command_line::Plan;
+use command_line::{MOST_WORKERS, Plan};
 use fixed_box::UNIT_MAX;
 use obj_text::{MOST_BYTES, Mesh, MeshFault, Why, read_mesh};
 use outside::{Gate, Sink, Source};
@@ -109,7 +109,7 @@ pub fn answer_mesh<R: Threads + Sync, S: Source, K: Sink, G: Gate>(
 ) -> Status
     requires few { length text.items ≤ MOST_BYTES }
     requires some_workers { 1 ≤ plan.workers }
-    requires few_workers { plan.workers ≤ WORKERS_MOST }
+    requires few_workers { plan.workers ≤ MOST_WORKERS }
     requires some_unit { 1 ≤ plan.unit }
     requires small_unit { plan.unit ≤ UNIT_MAX }
     ensures output { IfSome (mesh_output plan.unit (mesh_of plan.unit text.items) (S.left script.old)) (λ output. Fulfils output result (K.written out.old) (K.written out.new)) }

@@ -6,8 +6,7 @@ ghost use Rattle.command_line.specs.Items.{texts_of};
 ghost use Rattle.command_line.specs.Plans.{place_of};
 ghost use Rattle.world_engine.specs.Words.{opening, opening_of};
 
-use crate::limits::WORKERS_MOST;
-use command_line::{Input, Plan, WordsFault, read_words};
+use command_line::{Input, MOST_WORKERS, Plan, WordsFault, read_words};
 use std::alloc::Global;
 
 /// What a run opens: the mesh file of this name, by the plan.
@@ -23,7 +22,7 @@ pub fn read_opening<'a>(alloc: Global, words: &'a [String]) -> Result<Opening<'a
     ensures opening { IfOk result (λ found. Some (opening found.name.now found.plan.unit) ≡ opening_of (texts_of words.now)) }
     ensures usage { IfErr result (λ fault. fault ≡ WordsFault.Usage → opening_of (texts_of words.now) ≡ None) }
     ensures some_workers { IfOk result (λ found. 1 ≤ found.plan.workers) }
-    ensures few_workers { IfOk result (λ found. found.plan.workers ≤ WORKERS_MOST) }
+    ensures few_workers { IfOk result (λ found. found.plan.workers ≤ MOST_WORKERS) }
     ensures some_unit { IfOk result (λ found. 1 ≤ found.plan.unit) }
     ensures small_unit { IfOk result (λ found. found.plan.unit ≤ UNIT_MAX) }
 {

@@ -8,8 +8,7 @@ ghost use Rattle.obj_text.specs.Meshes.{IsFaceOf};
 ghost use Rattle.world_engine.specs.Worlds.{tri_of, tris_at, node_reply};
 
 use crate::grouping::group_list;
-use crate::limits::WORKERS_MOST;
-use command_line::Build;
+use command_line::{Build, MOST_WORKERS};
 use fixed_box::{Box3, Point, Tri, box_of};
 use karras_build::{fit_joined, spans};
 use morton_key::order;
@@ -63,7 +62,7 @@ impl World {
         _gate: &G,
     ) -> Result<World, Memory>
         requires some { 1 ≤ workers }
-        requires few { workers ≤ WORKERS_MOST }
+        requires few { workers ≤ MOST_WORKERS }
         ensures { IfOk result (λ world. world ≡ world_of mesh) }
     {
         let tris = triangles(alloc, mesh.points(), mesh.faces())?;
