@@ -4,16 +4,10 @@ with 24 digits a coordinate, 1,048,576 triangles over them with three parts a co
 The same text at each run."""
 import sys
 
+from mesh import draw
+
 COUNT = 1_048_576
 BYTES = 268_435_456
-state = 1
-
-
-def draw(limit):
-    """A number from 0 to limit - 1."""
-    global state
-    state = (state * 6364136223846793005 + 1442695040888963407) % 2**64
-    return (state >> 33) % limit
 
 
 def coordinate():

@@ -20,10 +20,14 @@ def coordinate():
     return f"{'-' if steps < 0 else ''}{size // 64}.{size % 64 * 15625:06}"
 
 
-out = sys.stdout
-lines = []
-for _ in range(COUNT):
-    lines.append(f"v {coordinate()} {coordinate()} {coordinate()}\n")
-for at in range(COUNT):
-    lines.append(f"f {at + 1} {draw(COUNT) + 1} {draw(COUNT) + 1}\n")
-out.write("".join(lines))
+def main():
+    lines = []
+    for _ in range(COUNT):
+        lines.append(f"v {coordinate()} {coordinate()} {coordinate()}\n")
+    for at in range(COUNT):
+        lines.append(f"f {at + 1} {draw(COUNT) + 1} {draw(COUNT) + 1}\n")
+    sys.stdout.write("".join(lines))
+
+
+if __name__ == "__main__":
+    main()
