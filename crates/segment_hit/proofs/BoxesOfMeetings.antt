@@ -15,7 +15,7 @@ way : (D T p q : ℤ) → D *ℤ p +ℤ T *ℤ (q -ℤ p) ≡ p *ℤ (D -ℤ T) 
 way D T p q = rw (← parts D, ← parts T, ← parts p, ← parts q) (simp to_diff (same_diff _ _ _ _ (omega arith)))
 
 -- a product by a sum of three
-spread : (h u v w : ℤ) → h *ℤ (u +ℤ v +ℤ w) ≡ h *ℤ u +ℤ h *ℤ v +ℤ h *ℤ w
+pub spread : (h u v w : ℤ) → h *ℤ (u +ℤ v +ℤ w) ≡ h *ℤ u +ℤ h *ℤ v +ℤ h *ℤ w
 spread h u v w =
     rw (← parts h, ← parts u, ← parts v, ← parts w) (simp to_diff (same_diff _ _ _ _ (omega arith)))
 
@@ -88,57 +88,69 @@ low_from_high p q a b c T D u v w l h m ph qh la lb lc =
       times_comm w c,
     ))
 
+-- at a meeting the weighed corners balance on each axis
+pub on_x : (p q : Point) (t : Tri) (T D : ℤ) (m : MeetsAt p q t T D) →
+    Balances p.x q.x t.a.x t.b.x t.c.x T D m.weights.0 m.weights.1 m.weights.2
+on_x p q t T D m =
+    let k = m.weights.3 in
+    record {
+      positive = m.positive;
+      begun = m.begun;
+      ended = m.ended;
+      first = k.first;
+      second = k.second;
+      third = k.third;
+      whole = k.whole;
+      balanced = k.on_x;
+    }
+
+pub on_y : (p q : Point) (t : Tri) (T D : ℤ) (m : MeetsAt p q t T D) →
+    Balances p.y q.y t.a.y t.b.y t.c.y T D m.weights.0 m.weights.1 m.weights.2
+on_y p q t T D m =
+    let k = m.weights.3 in
+    record {
+      positive = m.positive;
+      begun = m.begun;
+      ended = m.ended;
+      first = k.first;
+      second = k.second;
+      third = k.third;
+      whole = k.whole;
+      balanced = k.on_y;
+    }
+
+pub on_z : (p q : Point) (t : Tri) (T D : ℤ) (m : MeetsAt p q t T D) →
+    Balances p.z q.z t.a.z t.b.z t.c.z T D m.weights.0 m.weights.1 m.weights.2
+on_z p q t T D m =
+    let k = m.weights.3 in
+    record {
+      positive = m.positive;
+      begun = m.begun;
+      ended = m.ended;
+      first = k.first;
+      second = k.second;
+      third = k.third;
+      whole = k.whole;
+      balanced = k.on_z;
+    }
+
 -- each box that holds both ends meets each box that holds the three corners
 pub boxes_meet : (p q : Point) (t : Tri) (T D : ℤ) (s b : Box3) → MeetsAt p q t T D →
     Holds s p → Holds s q → Holds b t.a → Holds b t.b → Holds b t.c → Meets s b
 boxes_meet p q t T D s b m sp sq ba bb bc =
-    let u = m.weights.0 in
-    let v = m.weights.1 in
-    let w = m.weights.2 in
-    let k = m.weights.3 in
-    let on_x : Balances p.x q.x t.a.x t.b.x t.c.x T D u v w = record {
-      positive = m.positive;
-      begun = m.begun;
-      ended = m.ended;
-      first = k.first;
-      second = k.second;
-      third =
-          k.third;
-      whole = k.whole;
-      balanced = k.on_x;
-    } in
-    let on_y : Balances p.y q.y t.a.y t.b.y t.c.y T D u v w = record {
-      positive = m.positive;
-      begun = m.begun;
-      ended = m.ended;
-      first = k.first;
-      second = k.second;
-      third =
-          k.third;
-      whole = k.whole;
-      balanced = k.on_y;
-    } in
-    let on_z : Balances p.z q.z t.a.z t.b.z t.c.z T D u v w = record {
-      positive = m.positive;
-      begun = m.begun;
-      ended = m.ended;
-      first = k.first;
-      second = k.second;
-      third =
-          k.third;
-      whole = k.whole;
-      balanced = k.on_z;
-    } in
+    let x = on_x p q t T D m in
+    let y = on_y p q t T D m in
+    let z = on_z p q t T D m in
     (meets_by_corners s b).1 (record {
       first = record {
-        x = low_to_high _ _ _ _ _ _ _ _ _ _ s.lo.x b.hi.x on_x sp.x.low sq.x.low ba.x.high bb.x.high bc.x.high;
-        y = low_to_high _ _ _ _ _ _ _ _ _ _ s.lo.y b.hi.y on_y sp.y.low sq.y.low ba.y.high bb.y.high bc.y.high;
-        z = low_to_high _ _ _ _ _ _ _ _ _ _ s.lo.z b.hi.z on_z sp.z.low sq.z.low ba.z.high bb.z.high bc.z.high;
+        x = low_to_high _ _ _ _ _ _ _ _ _ _ s.lo.x b.hi.x x sp.x.low sq.x.low ba.x.high bb.x.high bc.x.high;
+        y = low_to_high _ _ _ _ _ _ _ _ _ _ s.lo.y b.hi.y y sp.y.low sq.y.low ba.y.high bb.y.high bc.y.high;
+        z = low_to_high _ _ _ _ _ _ _ _ _ _ s.lo.z b.hi.z z sp.z.low sq.z.low ba.z.high bb.z.high bc.z.high;
       };
       second = record {
-        x = low_from_high _ _ _ _ _ _ _ _ _ _ b.lo.x s.hi.x on_x sp.x.high sq.x.high ba.x.low bb.x.low bc.x.low;
-        y = low_from_high _ _ _ _ _ _ _ _ _ _ b.lo.y s.hi.y on_y sp.y.high sq.y.high ba.y.low bb.y.low bc.y.low;
-        z = low_from_high _ _ _ _ _ _ _ _ _ _ b.lo.z s.hi.z on_z sp.z.high sq.z.high ba.z.low bb.z.low bc.z.low;
+        x = low_from_high _ _ _ _ _ _ _ _ _ _ b.lo.x s.hi.x x sp.x.high sq.x.high ba.x.low bb.x.low bc.x.low;
+        y = low_from_high _ _ _ _ _ _ _ _ _ _ b.lo.y s.hi.y y sp.y.high sq.y.high ba.y.low bb.y.low bc.y.low;
+        z = low_from_high _ _ _ _ _ _ _ _ _ _ b.lo.z s.hi.z z sp.z.high sq.z.high ba.z.low bb.z.low bc.z.low;
       };
     })
 

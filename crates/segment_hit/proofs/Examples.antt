@@ -1,8 +1,11 @@
 -- Worked segments, tried on the definition alone.
-use Rattle.std.proofs.Common.{◌≡◌, ℕ, ◌/◌, ap, lit<, ℤ, pos, negsuc, refl, Option, Some, None}
+use Rattle.std.proofs.Common.{◌≡◌, ℕ, ◌/◌, ap, lit<, ℤ, pos, negsuc, arith, refl, Option, Some, None}
+use Rattle.std.proofs.lemmas.Int.{ints}
 use Rattle.fixed_box.specs.declared.shapes.Point.{Point}
+use Rattle.fixed_box.specs.declared.shapes.Box3.{Box3}
 use Rattle.std.proofs.lemmas.Nat.Gcd.{IsGcd-from_zero, IsGcd-from_mod}
 use Rattle.segment_hit.proofs.GreatestDivisors.{greatest_is}
+use Rattle.segment_hit.specs.Entering.{IsIn}
 use Rattle.segment_hit.specs.HitOf.{Ratio, greatest_from, lowest_terms, shares_of, negated, faced, is_inside, fraction_of, hit_of}
 
 abbrev point : ℤ → ℤ → ℤ → Point
@@ -67,3 +70,29 @@ half_in_steps =
     let whole : ℕ = 8388608 in
     let divisor = IsGcd-from_mod time whole time (IsGcd-from_mod whole time time (IsGcd-from_zero time 0 refl)) in
     ap (λ (g : ℕ). Some (over (pos (time / g)) (pos (whole / g)))) (greatest_is time whole time (lit< tt) divisor)
+
+-- the box from (0,0,0) to (4,4,4)
+abbrev cube : Box3
+cube = record {
+  lo = point (pos 0) (pos 0) (pos 0);
+  hi = point (pos 4) (pos 4) (pos 4);
+  x_rises = omega (arith, ints);
+  y_rises = omega (arith, ints);
+  z_rises = omega (arith, ints);
+}
+
+-- a segment that touches its corner (0,0,0) alone, at 1/3 of the way
+in_at_a_corner : IsIn (point (negsuc 0) (pos 1) (pos 1)) (point (pos 2) (negsuc 1) (negsuc 1)) cube (pos 1) (pos 3)
+in_at_a_corner = record {
+  positive = omega (arith, ints);
+  begun = omega (arith, ints);
+  ended = omega (arith, ints);
+  on_x = record { low = omega (arith, ints); high = omega (arith, ints) };
+  on_y = record { low = omega (arith, ints); high = omega (arith, ints) };
+  on_z = record { low = omega (arith, ints); high = omega (arith, ints) };
+}
+
+-- and is not in it at 1/2
+out_behind_the_corner : IsIn (point (negsuc 0) (pos 1) (pos 1)) (point (pos 2) (negsuc 1) (negsuc 1)) cube (pos 1) (pos 2)
+    → ⊥
+out_behind_the_corner h = let low = h.on_y.low in omega (arith, ints)

@@ -10,15 +10,11 @@ use Rattle.std.proofs.lemmas.Cmp.{int_ranked, by_ranked, int_cmp_total}
 use Rattle.std.proofs.lemmas.Int.{ints, unsigned_abs-mul, by_lt_z}
 use Rattle.std.proofs.lemmas.Nat.Gcd.{dvd_antisymm}
 use Rattle.std.proofs.Math.Nat.{dvd-mul_left}
-use Rattle.segment_hit.proofs.Integers.{parts, same_diff, to_diff}
+use Rattle.segment_hit.proofs.Integers.{moved}
 use Rattle.segment_hit.proofs.Signs.{size_is, orderly, grows, shrinks, cancel_right}
 use Rattle.segment_hit.proofs.LowestTerms.{divides_other}
 use Rattle.segment_hit.specs.FractionOrder.{frac_cmp, IsAtMost, IsBelow}
 use Rattle.segment_hit.specs.declared.fraction.Frac.{Frac}
-
--- the last two factors change places
-moved : (a b c : ℤ) → (a *ℤ b) *ℤ c ≡ (a *ℤ c) *ℤ b
-moved a b c = rw (← parts a, ← parts b, ← parts c) (simp to_diff (same_diff _ _ _ _ (omega arith)))
 
 -- what is at most a fraction is at most all that it is at most
 pub at_most_trans : (a b c : Frac) → IsAtMost a b → IsAtMost b c → IsAtMost a c

@@ -3,7 +3,7 @@ use Rattle.std.proofs.Common.{◌≡◌, ◌≢◌, ℤ, pos, ◌+ℤ◌, ◌-�
 use Rattle.std.proofs.lemmas.Int.{ints}
 use Rattle.fixed_box.specs.declared.shapes.Point.{Point}
 use Rattle.fixed_box.specs.declared.shapes.Tri.{Tri}
-use Rattle.segment_hit.proofs.Integers.{parts, same_diff, to_diff, linear, times_comm, add-times, times-add}
+use Rattle.segment_hit.proofs.Integers.{parts, same_diff, to_diff, linear, times_comm, moved, add-times, times-add}
 use Rattle.segment_hit.proofs.Signs.{not_negative, at_most, cancel_nonzero}
 use Rattle.segment_hit.proofs.Combinations.{time_is}
 use Rattle.segment_hit.proofs.Divisions.{Solves, divides, weighs}
@@ -59,9 +59,6 @@ same_fraction num den N S T D n e k =
     cancel_nonzero (num *ℤ D) (T *ℤ den) N n
     (moved num D N ∙ ap (λ (x : ℤ). x *ℤ D) e ∙ turned_about S den D ∙ ap (λ (x : ℤ). x *ℤ den) (sym k) ∙ moved T N den)
   where
-    moved : (a b c : ℤ) → (a *ℤ b) *ℤ c ≡ (a *ℤ c) *ℤ b
-    moved a b c = rw (← parts a, ← parts b, ← parts c) (simp to_diff (same_diff _ _ _ _ (omega arith)))
-
     turned_about : (a b c : ℤ) → (a *ℤ b) *ℤ c ≡ (c *ℤ a) *ℤ b
     turned_about a b c = rw (← parts a, ← parts b, ← parts c) (simp to_diff (same_diff _ _ _ _ (omega arith)))
 

@@ -92,6 +92,10 @@ times_comm a b = rw (← parts a, ← parts b) (simp to_diff (same_diff _ _ _ _ 
 pub times_assoc : (a b c : ℤ) → (a *ℤ b) *ℤ c ≡ a *ℤ (b *ℤ c)
 times_assoc a b c = rw (← parts a, ← parts b, ← parts c) (simp to_diff (same_diff _ _ _ _ (omega arith)))
 
+-- the last two of three factors change places
+pub moved : (a b c : ℤ) → (a *ℤ b) *ℤ c ≡ (a *ℤ c) *ℤ b
+moved a b c = rw (← parts a, ← parts b, ← parts c) (simp to_diff (same_diff _ _ _ _ (omega arith)))
+
 -- a product of a difference
 pub sub-times : (a b c : ℤ) → (a -ℤ b) *ℤ c ≡ a *ℤ c -ℤ b *ℤ c
 sub-times a b c = rw (← parts a, ← parts b, ← parts c)

@@ -11,4 +11,8 @@ pub mod IntegerTests
 pub mod GreatestDivisors
 pub mod HitValues
 pub mod BoxesOfMeetings
+pub mod Chains
+pub mod Axes
+pub mod Entries
+pub mod MeetingsInBoxes
 mod Examples

@@ -1,6 +1,6 @@
 -- Signs of products over the integers: from equal ratios to bounds, and the cancelling of factors.
-use Rattle.std.proofs.Common.{◌≡◌, ◌≢◌, ℕ, zero, suc, ◌+◌, ◌*◌, ◌≤◌, ℤ, pos, negsuc, ◌-ℤ◌, ◌*ℤ◌, neg_ℤ, ◌≤ℤ◌, ◌<ℤ◌, unsigned_abs, arith, refl}
-use Rattle.std.proofs.lemmas.Int.{ints}
+use Rattle.std.proofs.Common.{◌≡◌, ◌≢◌, ℕ, zero, suc, ◌+◌, ◌*◌, ◌≤◌, ℤ, pos, negsuc, ◌-ℤ◌, ◌*ℤ◌, neg_ℤ, ◌≤ℤ◌, ◌<ℤ◌, unsigned_abs, to_z, of_z, w64, FitsSigned, arith, refl}
+use Rattle.std.proofs.lemmas.Int.{ints, to_z-of_z}
 use borrow.Author.Differences.{up, down, product_is, le_out, lt_out, at_most_in, below_in}
 use native.Mathlib.Nat.{mul-le-mul_right}
 use Rattle.segment_hit.proofs.Integers.{linear, sub-times, times-sub, times-neg, times_comm}
@@ -73,3 +73,7 @@ shrinks x y c p h =
 pub size_is : (z : ℤ) → pos 0 ≤ℤ z → pos (unsigned_abs z) ≡ z
 size_is (pos n) h = refl
 size_is (negsuc n) h = absurd (omega (arith, ints))
+
+-- a number that fits and is not below 0 is unchanged by a cast
+pub unchanged : (z : ℤ) → FitsSigned w64 z → pos 0 ≤ℤ z → pos (unsigned_abs (to_z w64 (of_z w64 z))) ≡ z
+unchanged z f h = rw (to_z-of_z w64 z f) (size_is z h)

@@ -22,7 +22,7 @@ fn minor(a: i64, b: i64, c: i64, d: i64) -> i64
 }
 
 /// From one coordinate of the world to another.
-fn step(from: i32, to: i32) -> i64
+pub fn step(from: i32, to: i32) -> i64
     requires from { IsCoordinate from }
     requires to { IsCoordinate to }
     ensures value { result ≡ to -ℤ from }

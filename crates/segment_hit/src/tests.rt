@@ -1,6 +1,8 @@
 //! Worked segments, a table of others that a script outside this repository solved, and some thousand small ones that
-//! are solved here in another way.
+//! are solved here in another way. Segments against boxes stand in `boxes`.
 
+mod boxes;
+mod candidates;
 mod sides;
 mod table;
 

@@ -1,11 +1,7 @@
-use Rattle.std.proofs.Common.{◌≡◌, ◌≤ℤ◌, ℤ, pos, arith, to_z, of_z, w64, unsigned_abs, FitsSigned}
-use Rattle.std.proofs.lemmas.Int.{ints, to_z-of_z, fits_signed_from_abs}
-use Rattle.segment_hit.proofs.Signs.{size_is}
+use Rattle.std.proofs.Common.{◌≤ℤ◌, pos, arith, w64}
+use Rattle.std.proofs.lemmas.Int.{ints, fits_signed_from_abs}
+use Rattle.segment_hit.proofs.Signs.{unchanged}
 use Rattle.segment_hit.proofs.meeting.settle.Goals as goal
-
--- a number that fits and is not below 0 is unchanged by a cast
-unchanged : (z : ℤ) → FitsSigned w64 z → pos 0 ≤ℤ z → pos (unsigned_abs (to_z w64 (of_z w64 z))) ≡ z
-unchanged z f h = rw (to_z-of_z w64 z f) (size_is z h)
 
 pub returns-clause-found : goal.returns-clause-found
 returns-clause-found c =
