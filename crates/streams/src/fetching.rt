@@ -5,7 +5,7 @@ ghost use Rattle.outside.specs.Causes.{Rose};
 ghost use Rattle.outside.specs.Files.{FileIs, IsAbsent};
 ghost use Rattle.streams.specs.Loads.{IsLoadedFile, IsWithin};
 
-use crate::{LoadFault, Loaded, PIECE};
+use crate::{FILE_PIECE, LoadFault, Loaded};
 use outside::Shelf;
 use std::alloc::Global;
 
@@ -27,10 +27,10 @@ pub fn fetch_all<H: Shelf>(
     ensures later { H.faults shelf.old ≤ H.faults shelf.new }
 {
     let mut all = Vec::new(alloc);
-    let mut piece = [0u8; PIECE];
+    let mut piece = [0u8; FILE_PIECE];
     loop {
         let at = all.len() as u64;
-        let most = PIECE.min(limit + 1 - all.len());
+        let most = FILE_PIECE.min(limit + 1 - all.len());
         let Ok(count) = shelf.fetch(name, at, &mut piece[..most]) else {
             return Err(LoadFault::Read);
         };

@@ -13,5 +13,5 @@ mod writing;
 pub use answerer::{Answerer, Ended, Stop};
 pub use answering::{Answered, answer_lines};
 pub use fetching::fetch_all;
-pub use loads::{LoadFault, Loaded, PIECE};
+pub use loads::{FILE_PIECE, LoadFault, Loaded, PIECE};
 pub use writing::write_all;

@@ -11,6 +11,7 @@ pub mod Roots
 pub mod Answer
 pub mod HitOrder
 pub mod BestHit
+pub mod Looks
 pub mod SegmentPruning
 pub mod NearestWalk
 pub mod NearestLaws

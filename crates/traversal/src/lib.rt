@@ -7,10 +7,12 @@ mod found;
 mod nearest_hit;
 mod overlapping;
 mod steps;
+mod triangles;
 
 pub use found::{Found, Numbers};
-pub use nearest_hit::nearest;
+pub use nearest_hit::{nearest, nearest_among};
 pub use overlapping::overlaps;
+pub use triangles::Triangles;
 
 #[cfg(test)]
 mod tests;

@@ -16,6 +16,7 @@ ghost use Rattle.traversal.specs.NearestOf.{parts_of, nearest_of};
 ghost use Rattle.traversal.specs.Nearing.{IsNoFarther, StandsIn, Nears};
 
 use crate::steps::{node_meets, root};
+use crate::triangles::{Listed, Triangles};
 use fixed_box::{Box3, Point, Tri};
 use radix_tree::{Child, Tree, left, right};
 use segment_hit::{Frac, cmp, hit};
@@ -49,30 +50,30 @@ fn better(best: Option<(u32, Frac)>, found: (u32, Frac)) -> (u32, Frac)
 }
 
 /// The best hit after a look at the triangle of that number.
-fn with_triangle(
-    tris: &[Tri],
+fn with_triangle<S: Triangles>(
+    tris: &S,
     p: Point,
     q: Point,
     number: u32,
     best: Option<(u32, Frac)>,
 ) -> Option<(u32, Frac)>
     requires from_one { 0 < number }
-    requires to_count { number ≤ length tris.now }
-    requires tris { All TriInWorld tris.now }
+    requires to_count { number ≤ length (S.list tris.now) }
+    requires tris { All TriInWorld (S.list tris.now) }
     requires p { InWorld p }
     requires q { InWorld q }
-    ensures { Nears tris.now p q (λ n. n ≡ number) best result }
+    ensures { Nears (S.list tris.now) p q (λ n. n ≡ number) best result }
 {
-    match hit(p, q, &tris[number as usize - 1]) {
+    match hit(p, q, &tris.triangle(number)) {
         Some(at) => Some(better(best, (number, at))),
         None => best,
     }
 }
 
 /// The best hit after a look at the triangles below a child; `around` is the box of the segment's ends.
-fn nearest_below(
+fn nearest_below<S: Triangles>(
     t: &Tree,
-    tris: &[Tri],
+    tris: &S,
     p: Point,
     q: Point,
     around: &Box3,
@@ -80,13 +81,13 @@ fn nearest_below(
     best: Option<(u32, Frac)>,
 ) -> Option<(u32, Frac)>
     requires table { IsTable t.now }
-    requires fitted { IsFitted t.now (map tri_box tris.now) }
-    requires tris { All TriInWorld tris.now }
+    requires fitted { IsFitted t.now (map tri_box (S.list tris.now)) }
+    requires tris { All TriInWorld (S.list tris.now) }
     requires p { InWorld p }
     requires q { InWorld q }
     requires around { around.now ≡ corner_box p q }
     requires child { IsChild t.now child }
-    ensures { (a b : ℕ) → HasRange t.now.keys child a b → Nears tris.now p q (StandsIn t.now.keys a b) best result }
+    ensures { (a b : ℕ) → HasRange t.now.keys child a b → Nears (S.list tris.now) p q (StandsIn t.now.keys a b) best result }
 {
     match child {
         Child::Leaf(position) => with_triangle(tris, p, q, t.keys()[position as usize].tri, best),
@@ -102,22 +103,36 @@ fn nearest_below(
 
 /// The nearest triangle that the segment from `p` to `q` meets, with the fraction of the way.
 ///
-/// `tris[n - 1]` is triangle `n`, and the tree has to be fitted to the boxes of the triangles. 0/1 is `p` and 1/1 is
-/// `q`; both ends count, and so do a triangle's edges. Of triangles met at the same fraction the lowest number is
-/// answered. A triangle of no area is never met, nor one whose plane the segment is parallel to. It takes no memory,
-/// and its recursion is at most one call deeper than the tree is high.
+/// The tree has to be fitted to the boxes of the triangles. 0/1 is `p` and 1/1 is `q`; both ends count, and so do a
+/// triangle's edges. Of triangles met at the same fraction the lowest number is answered. A triangle of no area is
+/// never met, nor one whose plane the segment is parallel to. It takes no memory, and its recursion is at most one call
+/// deeper than the tree is high.
+pub fn nearest_among<S: Triangles>(t: &Tree, tris: &S, p: Point, q: Point) -> Option<(u32, Frac)>
+    requires fitted { IsFitted t.now (map tri_box (S.list tris.now)) }
+    requires tris { All TriInWorld (S.list tris.now) }
+    requires p { InWorld p }
+    requires q { InWorld q }
+    ensures found { IfSome result (λ h. IsNearest (S.list tris.now) p q h.0 h.1) }
+    // so it is None only where no triangle is met
+    ensures only { (number : ℕ) (at : Frac) → IsMet (S.list tris.now) p q number at → IsSome result }
+    // both as one equation
+    ensures value { option_map parts_of result ≡ nearest_of (S.list tris.now) p q }
+{
+    let around = Box3::of_corners(p, q);
+    let child = root(t)?;
+    nearest_below(t, tris, p, q, &around, child, None)
+}
+
+/// The nearest triangle of a list that the segment from `p` to `q` meets, with the fraction of the way: what
+/// `nearest_among` answers, where `tris[n - 1]` is triangle `n`.
 pub fn nearest(t: &Tree, tris: &[Tri], p: Point, q: Point) -> Option<(u32, Frac)>
     requires fitted { IsFitted t.now (map tri_box tris.now) }
     requires tris { All TriInWorld tris.now }
     requires p { InWorld p }
     requires q { InWorld q }
     ensures found { IfSome result (λ h. IsNearest tris.now p q h.0 h.1) }
-    // so it is None only where no triangle is met
     ensures only { (number : ℕ) (at : Frac) → IsMet tris.now p q number at → IsSome result }
-    // both as one equation
     ensures value { option_map parts_of result ≡ nearest_of tris.now p q }
 {
-    let around = Box3::of_corners(p, q);
-    let child = root(t)?;
-    nearest_below(t, tris, p, q, &around, child, None)
+    nearest_among(t, &Listed { tris }, p, q)
 }
