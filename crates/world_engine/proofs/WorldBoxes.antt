@@ -1,5 +1,6 @@
 -- The triangles of a mesh and their boxes are in the world.
-use Rattle.std.proofs.Common.{◌<◌, ℕ, pos, List, length, map, All}
+use Rattle.std.proofs.Common.{◌≡◌, ◌<◌, ◌≤◌, ◌-◌, ℕ, pos, List, length, map, get_or, All, sym, subst, arith}
+use Rattle.std.proofs.lemmas.List.{get_or-map, length-map}
 use Rattle.std.proofs.lemmas.List.Elements.{All-get_or, All-map, All-weaker}
 use Rattle.fixed_box.specs.declared.shapes.Point.{Point}
 use Rattle.fixed_box.specs.declared.shapes.Tri.{Tri}
@@ -7,8 +8,9 @@ use Rattle.fixed_box.specs.Extent.{tri_box}
 use Rattle.fixed_box.specs.World.{InWorld, BoxInWorld, TriInWorld}
 use Rattle.fixed_box.proofs.Extents.{tri_box-is_least}
 use Rattle.fixed_box.proofs.InTheWorld.{box_of_tri_in_world}
-use Rattle.obj_text.specs.Meshes.{IsFaceOf}
+use Rattle.obj_text.specs.Meshes.{MeshLists, IsFaceOf, IsMesh}
 use Rattle.obj_text.specs.declared.face.Face.{Face}
+use Rattle.traversal.specs.Nearest.{no_tri, triangle_of}
 use Rattle.world_engine.specs.Worlds.{point_at, tri_of, tris_at}
 
 -- a point that is there is in the world
@@ -38,3 +40,18 @@ boxes_in_world tris h =
     All-map BoxInWorld tri_box tris
     (All-weaker TriInWorld (λ t. BoxInWorld (tri_box t))
     (λ t is. box_of_tri_in_world t (tri_box t) is (tri_box-is_least t)) tris h)
+
+-- those of lists that are a mesh's are too
+pub tris_of_mesh_in_world : (mesh : MeshLists) (points : List Point) (faces : List Face) → points ≡ mesh.points →
+    faces ≡ mesh.faces → IsMesh mesh → All TriInWorld (tris_at points faces)
+tris_of_mesh_in_world mesh points faces same_points same_faces is =
+    subst (λ ps. All TriInWorld (tris_at ps faces)) (sym same_points)
+    (subst (λ fs. All TriInWorld (tris_at mesh.points fs)) (sym same_faces)
+    (tris_in_world mesh.points mesh.faces is.in_world is.named))
+
+-- the triangle of a number is that of the face at its place
+pub face_of_number : (points : List Point) (faces : List Face) (n : ℕ) (none : Face) → 0 < n →
+    n ≤ length (tris_at points faces) → tri_of points (get_or faces (n - 1) none) ≡ triangle_of (tris_at points faces) n
+unfolding triangle_of
+face_of_number points faces n none from_one to_count =
+    sym (get_or-map (tri_of points) faces (n - 1) none no_tri (omega (arith, length-map faces (tri_of points))))

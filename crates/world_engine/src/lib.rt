@@ -4,6 +4,7 @@
 //! headline as a clause.
 #![tactic(auto)]
 
+mod corners;
 mod desk;
 mod grouping;
 mod limits;

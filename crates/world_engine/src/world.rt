@@ -1,32 +1,29 @@
-//! The world that a mesh opens. It keeps the triangles, their boxes and the tree over the boxes, all made once; queries
-//! walk the tree, and a box query leaves behind how many boxes it tested.
+//! The world that a mesh opens. It keeps the triangles' boxes and the tree over them, both made once; queries walk the
+//! tree, and a box query leaves behind how many boxes it tested.
 
-ghost use Rattle.std.specs.Prelude.{◌≡◌, ◌≤◌, IfOk, length, map, All};
-ghost use Rattle.fixed_box.specs.Extent.{tri_box};
-ghost use Rattle.fixed_box.specs.World.{InWorld, BoxInWorld, TriInWorld};
-ghost use Rattle.obj_text.specs.Meshes.{IsFaceOf};
-ghost use Rattle.world_engine.specs.Worlds.{tri_of, tris_at, node_reply};
+ghost use Rattle.std.specs.Prelude.{◌≡◌};
+ghost use Rattle.world_engine.specs.Worlds.{node_reply};
 
+use crate::corners::{Corners, boxes_of};
 use crate::grouping::group_list;
 use command_line::{Build, MOST_WORKERS};
-use fixed_box::{Box3, Point, Tri, box_of};
+use fixed_box::{Box3, Point};
 use karras_build::{fit_joined, spans};
 use morton_key::order;
-use obj_text::{Face, Mesh};
+use obj_text::Mesh;
 use outside::{Gate, Memory};
 use query_script::{Ask, HitFraction, LineFault, Reply};
 use radix_tree::{Node, Tree};
 use std::alloc::Global;
 use std::marker::Model;
 use std::thread::Threads;
-use traversal::{nearest, overlaps};
+use traversal::{nearest_among, overlaps};
 
 /// A world of triangles, which answers asks. Contracts see it as its state: its mesh, the points now and
 /// those of the last build, and its last work.
 #[derive(Drop)]
 pub struct World {
     mesh: Mesh,
-    tris: Vec<Tri>,
     boxes: Vec<Box3>,
     tree: Tree,
     work: u64,
@@ -40,7 +37,7 @@ impl Model for World {
 
     ghost view = { λ w. record { mesh = w.mesh; now = w.mesh.points; built = w.mesh.points; work = w.work } };
 
-    ghost invariant = { λ w. IsKept w.mesh w.tris.items w.boxes.items w.tree };
+    ghost invariant = { λ w. IsKept w.mesh w.boxes.items w.tree };
 }
 
 impl World {
@@ -65,14 +62,12 @@ impl World {
         requires few { workers ≤ MOST_WORKERS }
         ensures { IfOk result (λ world. world ≡ world_of mesh) }
     {
-        let tris = triangles(alloc, mesh.points(), mesh.faces())?;
-        let boxes = boxes_of(alloc, &tris)?;
+        let boxes = boxes_of(alloc, mesh.points(), mesh.faces())?;
         let keys = order(alloc, &boxes)?;
         let spans = spans(rt, alloc, &keys)?;
         let tree = fit_joined(rt, alloc, keys, &spans, &boxes)?;
         Ok(World {
             mesh,
-            tris,
             boxes,
             tree,
             work: 0,
@@ -133,7 +128,11 @@ impl World {
         requires q { InWorld q }
         ensures { result ≡ reply_to self.now (Ask.Seg p q) }
     {
-        match nearest(&self.tree, &self.tris, p, q) {
+        let corners = Corners {
+            points: self.mesh.points(),
+            faces: self.mesh.faces(),
+        };
+        match nearest_among(&self.tree, &corners, p, q) {
             Some((tri, frac)) => Reply::Hit {
                 tri,
                 at: HitFraction::new(frac),
@@ -167,44 +166,4 @@ fn node_reply(nodes: &[Node], number: u64) -> Reply
     } else {
         Reply::Refused(LineFault::NoSuchNode)
     }
-}
-
-/// The triangles of the faces, in the order of their numbers.
-fn triangles(alloc: Global, points: &[Point], faces: &[Face]) -> Result<Vec<Tri>, Memory>
-    requires world { All InWorld points.now }
-    requires named { All (IsFaceOf (length points.now)) faces.now }
-    ensures tris { IfOk result (λ tris. tris.items ≡ tris_at points.now faces.now) }
-    ensures world { IfOk result (λ tris. All TriInWorld tris.items) }
-    ensures count { IfOk result (λ tris. length tris.items ≡ length faces.now) }
-{
-    let mut tris = Vec::with_capacity(alloc, faces.len()).map_err(|_| Memory)?;
-    for face in faces {
-        tris.push(triangle(points, face)).map_err(|_| Memory)?;
-    }
-    Ok(tris)
-}
-
-fn triangle(points: &[Point], face: &Face) -> Tri
-    requires { IsFaceOf (length points.now) face.now }
-    ensures { result ≡ tri_of points.now face.now }
-{
-    Tri {
-        a: points[face.a as usize],
-        b: points[face.b as usize],
-        c: points[face.c as usize],
-    }
-}
-
-/// The box of each triangle.
-fn boxes_of(alloc: Global, tris: &[Tri]) -> Result<Vec<Box3>, Memory>
-    requires { All TriInWorld tris.now }
-    ensures boxes { IfOk result (λ boxes. boxes.items ≡ map tri_box tris.now) }
-    ensures world { IfOk result (λ boxes. All BoxInWorld boxes.items) }
-    ensures count { IfOk result (λ boxes. length boxes.items ≡ length tris.now) }
-{
-    let mut boxes = Vec::with_capacity(alloc, tris.len()).map_err(|_| Memory)?;
-    for tri in tris {
-        boxes.push(box_of(tri)).map_err(|_| Memory)?;
-    }
-    Ok(boxes)
 }
