@@ -3,6 +3,7 @@ use Rattle.std.proofs.Common.{◌≡◌, ℕ, ◌<◌, ◌≤◌, ◌⊎◌, ref
 use Rattle.fixed_box.specs.declared.shapes.Point.{Point}
 use Rattle.fixed_box.specs.declared.shapes.Tri.{Tri}
 use Rattle.segment_hit.specs.declared.fraction.Frac.{Frac}
+use Rattle.segment_hit.specs.FractionOrder.{IsBelow}
 use Rattle.segment_hit.specs.Meeting.{IsHit}
 use Rattle.traversal.specs.Nearest.{triangle_of, IsMet, IsNearest}
 use Rattle.traversal.specs.Nearing.{IsNoFarther, Nears}
@@ -33,6 +34,17 @@ module _ (tris : List Tri) (p q : Point) where
       own : (o : Option (ℕ × Frac)) → IfSome o (λ h. (o ≡ Some h) ⊎ IsMet tris p q h.0 h.1)
       own None = tt
       own (Some h) = inl refl
+
+  -- a look at triangles none of which is met as near as the best hit
+  pub nears_far : (seen : ℕ → Type 0) (best : Option (ℕ × Frac)) →
+      IsSomeAnd best (λ h. (n : ℕ) (f : Frac) → seen n → IsHit p q (triangle_of tris n) f → IsBelow h.1 f) →
+      Nears tris p q seen best best
+  nears_far seen None far = absurd far
+  nears_far seen (Some h) far = record {
+    taken = inl refl;
+    kept = λ k e. kept_itself (Some h) k e;
+    beats = λ n f s hit. inl (far n f s hit);
+  }
 
   -- a look at some triangles and then at others
   pub nears_both : (first then all : ℕ → Type 0) (before middle after : Option (ℕ × Frac)) →

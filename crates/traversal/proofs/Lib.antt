@@ -12,7 +12,7 @@ pub mod Answer
 pub mod HitOrder
 pub mod BestHit
 pub mod Looks
-pub mod SegmentPruning
+pub mod Approaches
 pub mod NearestWalk
 pub mod NearestLaws
 pub mod NearestValues

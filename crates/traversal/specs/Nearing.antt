@@ -1,13 +1,14 @@
 -- What a look at some triangles does to the best hit so far, which the crate's own functions cite.
 -- No public clause cites this module.
-use Rattle.std.specs.Prelude.{ℕ, ◌≡◌, ◌≤◌, ◌⊎◌, List, Option, Some, IfSome, IsSomeAnd}
+use Rattle.std.specs.Prelude.{ℕ, ◌≡◌, ◌≤◌, ◌⊎◌, List, Option, None, Some, IfSome, IsSomeAnd}
 use Rattle.fixed_box.specs.declared.shapes.Point.{Point}
 use Rattle.fixed_box.specs.declared.shapes.Tri.{Tri}
 use Rattle.morton_key.specs.declared.keys.Key.{Key}
 use Rattle.morton_key.specs.Keys.{tri_at}
 use Rattle.segment_hit.specs.Meeting.{IsHit}
-use Rattle.segment_hit.specs.FractionOrder.{IsBelow}
+use Rattle.segment_hit.specs.FractionOrder.{IsBelow, IsBehind}
 use Rattle.segment_hit.specs.declared.fraction.Frac.{Frac}
+use Rattle.segment_hit.specs.declared.stretch.Entry.{Entry}
 use Rattle.traversal.specs.Nearest.{triangle_of, IsMet}
 
 -- of two hits, each a triangle's number and a fraction, the first is nearer, or as near and of no higher number
@@ -25,3 +26,10 @@ pub record Nears (tris : List Tri) (p q : Point) (seen : ℕ → Type 0) (before
   pub kept : (h : ℕ × Frac) → before ≡ Some h → IsSomeAnd after (λ k. IsNoFarther k h)
   pub beats : (number : ℕ) (at : Frac) → seen number → IsHit p q (triangle_of tris number) at →
       IsSomeAnd after (λ k. IsNoFarther k (number, at))
+
+-- what the place where a segment enters a box, if it does, tells of some triangles: none is met where there is none,
+-- and else none before it
+pub record Screens (tris : List Tri) (p q : Point) (seen : ℕ → Type 0) (at : Option Entry) : Type 0 where
+  pub missed : at ≡ None → (number : ℕ) (f : Frac) → seen number → IsHit p q (triangle_of tris number) f → ⊥
+  pub behind : IfSome at (λ e. (best : Frac) → IsBehind e best →
+      (number : ℕ) (f : Frac) → seen number → IsHit p q (triangle_of tris number) f → IsBelow best f)

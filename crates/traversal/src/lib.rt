@@ -3,6 +3,7 @@
 //! A node's box goes round all triangles below it, so where it misses the query nothing below is looked at.
 #![tactic(auto)]
 
+mod approach;
 mod found;
 mod nearest_hit;
 mod overlapping;

@@ -1,11 +1,12 @@
-//! The nearest triangle that a segment meets, by a walk that passes over each box that misses the box of its ends.
-//! The best hit so far goes along; of hits at one fraction the lowest number is the best, whichever comes first.
+//! The nearest triangle that a segment meets, by a walk from front to back: of two children the one whose box the segment
+//! enters first comes first, and a box that it misses, or enters behind the best hit so far, is passed over. Of hits at
+//! one fraction the lowest number is the best, so a box that is entered just there is still looked at.
 
 ghost use Rattle.std.specs.Prelude.{◌≡◌, ℕ, ◌<◌, ◌≤◌, ◌⊎◌, length, map, All, Some, IfSome, IsSome};
 ghost use Rattle.std.specs.Bool.{MatchBool};
 ghost use Rattle.std.specs.Option.{option_map};
 ghost use Rattle.fixed_box.specs.World.{InWorld, TriInWorld};
-ghost use Rattle.fixed_box.specs.Extent.{corner_box, tri_box};
+ghost use Rattle.fixed_box.specs.Extent.{tri_box};
 ghost use Rattle.radix_tree.specs.Ranges.{HasRange};
 ghost use Rattle.radix_tree.specs.Table.{IsTable};
 ghost use Rattle.radix_tree.specs.Fit.{IsFitted};
@@ -13,11 +14,12 @@ ghost use Rattle.radix_tree.specs.Filling.{IsChild};
 ghost use Rattle.segment_hit.specs.declared.fraction.Frac.{Frac};
 ghost use Rattle.traversal.specs.Nearest.{IsMet, IsNearest};
 ghost use Rattle.traversal.specs.NearestOf.{parts_of, nearest_of};
-ghost use Rattle.traversal.specs.Nearing.{IsNoFarther, StandsIn, Nears};
+ghost use Rattle.traversal.specs.Nearing.{IsNoFarther, StandsIn, Nears, Screens};
 
-use crate::steps::{node_meets, root};
+use crate::approach::{Approach, approach_to, in_order, is_too_far};
+use crate::steps::root;
 use crate::triangles::{Listed, Triangles};
-use fixed_box::{Box3, Point, Tri};
+use fixed_box::{Point, Tri};
 use radix_tree::{Child, Tree, left, right};
 use segment_hit::{Frac, cmp, hit};
 use std::cmp::Ordering;
@@ -70,14 +72,13 @@ fn with_triangle<S: Triangles>(
     }
 }
 
-/// The best hit after a look at the triangles below a child; `around` is the box of the segment's ends.
+/// The best hit after a look at the triangles below a child that the segment approaches.
 fn nearest_below<S: Triangles>(
     t: &Tree,
     tris: &S,
     p: Point,
     q: Point,
-    around: &Box3,
-    child: Child,
+    way: Approach,
     best: Option<(u32, Frac)>,
 ) -> Option<(u32, Frac)>
     requires table { IsTable t.now }
@@ -85,18 +86,26 @@ fn nearest_below<S: Triangles>(
     requires tris { All TriInWorld (S.list tris.now) }
     requires p { InWorld p }
     requires q { InWorld q }
-    requires around { around.now ≡ corner_box p q }
-    requires child { IsChild t.now child }
-    ensures { (a b : ℕ) → HasRange t.now.keys child a b → Nears (S.list tris.now) p q (StandsIn t.now.keys a b) best result }
+    requires child { IsChild t.now way.child }
+    requires screens { (a b : ℕ) → HasRange t.now.keys way.child a b →
+        Screens (S.list tris.now) p q (StandsIn t.now.keys a b) way.at }
+    ensures { (a b : ℕ) → HasRange t.now.keys way.child a b →
+        Nears (S.list tris.now) p q (StandsIn t.now.keys a b) best result }
 {
-    match child {
+    let Some(at) = way.at else {
+        return best;
+    };
+    if is_too_far(&at, &best) {
+        return best;
+    }
+    match way.child {
         Child::Leaf(position) => with_triangle(tris, p, q, t.keys()[position as usize].tri, best),
         Child::Inner(number) => {
-            if !node_meets(t, around, number) {
-                return best;
-            }
-            let nearer = nearest_below(t, tris, p, q, around, left(t, number), best);
-            nearest_below(t, tris, p, q, around, right(t, number), nearer)
+            let on_left = approach_to(t, tris, p, q, left(t, number));
+            let on_right = approach_to(t, tris, p, q, right(t, number));
+            let (sooner, later) = in_order(on_left, on_right);
+            let nearer = nearest_below(t, tris, p, q, sooner, best);
+            nearest_below(t, tris, p, q, later, nearer)
         }
     }
 }
@@ -118,9 +127,8 @@ pub fn nearest_among<S: Triangles>(t: &Tree, tris: &S, p: Point, q: Point) -> Op
     // both as one equation
     ensures value { option_map parts_of result ≡ nearest_of (S.list tris.now) p q }
 {
-    let around = Box3::of_corners(p, q);
-    let child = root(t)?;
-    nearest_below(t, tris, p, q, &around, child, None)
+    let whole = approach_to(t, tris, p, q, root(t)?);
+    nearest_below(t, tris, p, q, whole, None)
 }
 
 /// The nearest triangle of a list that the segment from `p` to `q` meets, with the fraction of the way: what
