@@ -97,6 +97,22 @@ fn of_two_triangles_in_one_place_the_first_is_struck(rt: HostRuntime) -> Result<
 }
 
 #[test]
+fn a_box_that_is_entered_just_at_the_best_hit_is_looked_at(rt: HostRuntime) -> Result<(), Fail> {
+    // both are struck on the edge that they share; the box of the second is entered before, that of the first just there
+    let flat = triangle([[0, 0, 0], [4, 0, 0], [0, 4, 0]]);
+    let raised = triangle([[4, 0, 0], [0, 4, 0], [4, 4, 5]]);
+    let tris = [flat, raised];
+    let t = fitted(&rt, rt.alloc(), &tris)?;
+    let struck = walked(&rt, &t, &tris, [2, 2, 10], [2, 2, -10]);
+    assert_eq!(rt; struck, Some((1, 1, 2)));
+    let tris = [raised, flat];
+    let t = fitted(&rt, rt.alloc(), &tris)?;
+    let struck = walked(&rt, &t, &tris, [2, 2, 10], [2, 2, -10]);
+    assert_eq!(rt; struck, Some((1, 1, 2)));
+    Ok(())
+}
+
+#[test]
 fn a_shot_down_at_the_ramp_strikes_its_first_triangle(rt: HostRuntime) -> Result<(), Fail> {
     let mut tris = Vec::new(rt.alloc());
     for corners in LEVEL {
