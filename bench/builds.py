@@ -1,13 +1,14 @@
 #!/usr/bin/env python3
-"""Times each step of a build of bumpy floors of 2,048 to 524,288 triangles, in one program: `order` (codes and keys),
-`plain`, and in its place `spans` and `fit_joined`. Their trees are compared. The least of nine rounds is printed, in
-microseconds.
+"""Times each step of a build of bumpy floors of 2,048 to 524,288 triangles, in one program: `order` (codes and keys)
+and in its place `order_joined`; `plain`, and in its place `spans` and `fit_joined`, or `tree_joined` alone. The orders
+and the trees are compared. The least of nine rounds is printed, in microseconds.
 
-Usage, at the top of the repository: python3 bench/builds.py [HALF:LIST ..]
+Usage, at the top of the repository: python3 bench/builds.py [HALF:LIST:SORT ..]
 
-Each HALF:LIST is timed beside the crate as it stands, as a copy of `karras_build` with these in place of LEAST_HALF
-(`fitting.rt`) and LEAST_LIST (`finding.rt`): 8192:1 always finds the spans in threads, 1000000000:1000000000 starts no
-thread at all. Each costs a proof of the crate from nothing. It wants rt, and builds in a folder of its own.
+Each HALF:LIST:SORT is timed beside the crate as it stands, as a copy of `karras_build` with these in place of
+LEAST_HALF (`fitting.rt`), LEAST_LIST (`finding.rt`) and LEAST_SORT (`ordering.rt`): 8192:1:1 always finds the spans and
+sorts in threads, 1000000000:1000000000:1000000000 starts no thread at all. Each costs a proof of the crate from nothing.
+It wants rt, and builds in a folder of its own.
 """
 import os
 import re
@@ -20,6 +21,7 @@ HERE = os.path.dirname(os.path.abspath(__file__))
 TOP = os.path.dirname(HERE)
 BELOW = ["outside", "fixed_box", "morton_key", "radix_tree"]
 SIDES = [32, 64, 128, 256, 512]
+STEPS = ["order_joined", "spans", "fit_joined", "tree_joined"]
 
 HEAD = """//! Times the builds of bumpy floors.
 #![tactic(auto)]
@@ -77,10 +79,13 @@ fn by_plain<R: Clock + Abort>(rt: &R, alloc: Global, boxes: &[Box3]) -> Result<(
 """
 
 VARIANT = """
-fn by_NAME<R: Clock + Abort + Threads + Sync>(rt: &R, alloc: Global, boxes: &[Box3], slow: &Tree) -> Result<(u64, u64), Fail> {
+fn by_NAME<R: Clock + Abort + Threads + Sync>(rt: &R, alloc: Global, boxes: &[Box3], slow: &Tree) -> Result<(u64, u64, u64, u64), Fail> {
     assert!(rt; boxes.len() <= 1000000);
     assert!(rt; boxes.iter().all(|b| in_world(&b.lo) && in_world(&b.hi)));
-    let keys = order(alloc, boxes)?;
+    let start = Instant::now(rt)?;
+    let keys = NAME::order_joined(rt, alloc, boxes)?;
+    let ordered = since(rt, start)?;
+    assert!(rt; keys.as_slice() == slow.keys());
     let start = Instant::now(rt)?;
     let list = NAME::spans(rt, alloc, &keys)?;
     let found = since(rt, start)?;
@@ -88,7 +93,14 @@ fn by_NAME<R: Clock + Abort + Threads + Sync>(rt: &R, alloc: Global, boxes: &[Bo
     let t = NAME::fit_joined(rt, alloc, keys, &list, boxes)?;
     let fitted = since(rt, start)?;
     assert!(rt; t.nodes() == slow.nodes());
-    Ok((found, fitted))
+    drop(list);
+    drop(t);
+    let keys = order(alloc, boxes)?;
+    let start = Instant::now(rt)?;
+    let t = NAME::tree_joined(rt, alloc, keys, boxes)?;
+    let made = since(rt, start)?;
+    assert!(rt; t.nodes() == slow.nodes());
+    Ok((ordered, found, fitted, made))
 }
 """
 
@@ -100,20 +112,21 @@ def main_of(names):
     lines += ["    Ok(())", "}", ""]
     lines.append("fn time_floor<R: Clock + Abort + Threads + Sync + Print>(rt: &R, alloc: Global, side: u32) -> Result<(), Fail> {")
     lines.append("    let boxes = floor(alloc, side)?;")
-    for name in ["order", "plain"] + [f"{n}_{step}" for n in names for step in ["spans", "fit"]]:
+    for name in ["order", "plain"] + [f"{n}_{step}" for n in names for step in STEPS]:
         lines.append(f"    let mut {name} = u64::MAX;")
     lines.append("    for _ in 0..9 {")
     lines.append("        let (keys, nodes, slow) = by_plain(rt, alloc, &boxes)?;")
     lines.append("        order = order.min(keys);")
     lines.append("        plain = plain.min(nodes);")
     for n in names:
-        lines.append(f"        let (found, fitted) = by_{n}(rt, alloc, &boxes, &slow)?;")
-        lines.append(f"        {n}_spans = {n}_spans.min(found);")
-        lines.append(f"        {n}_fit = {n}_fit.min(fitted);")
+        lines.append(f"        let (ordered, found, fitted, made) = by_{n}(rt, alloc, &boxes, &slow)?;")
+        for step, time in zip(STEPS, ["ordered", "found", "fitted", "made"]):
+            lines.append(f"        {n}_{step} = {n}_{step}.min({time});")
     lines.append("    }")
     lines.append('    println!(rt; "{} triangles: order {order}, plain {plain}", boxes.len())?;')
     for n in names:
-        lines.append(f'    println!(rt; "    {n}: spans {{{n}_spans}}, fit_joined {{{n}_fit}}")?;')
+        times = ", ".join(f"{step} {{{n}_{step}}}" for step in STEPS)
+        lines.append(f'    println!(rt; "    {n}: {times}")?;')
     lines += ["    Ok(())", "}", ""]
     return "\n".join(lines)
 
@@ -149,9 +162,9 @@ try:
         copy_crate(work, crate, crate, [])
         table.append(f"{crate}: {deps[crate]}")
     for pair in sys.argv[1:]:
-        half, least = pair.split(":")
-        name = f"half_{half}_list_{least}"
-        swaps = [(r"LEAST_HALF: usize = \d+", f"LEAST_HALF: usize = {half}"), (r"LEAST_LIST: usize = \d+", f"LEAST_LIST: usize = {least}")]
+        half, least, keys = pair.split(":")
+        name = f"half_{half}_list_{least}_sort_{keys}"
+        swaps = [(r"LEAST_HALF: usize = \d+", f"LEAST_HALF: usize = {half}"), (r"LEAST_LIST: usize = \d+", f"LEAST_LIST: usize = {least}"), (r"LEAST_SORT: usize = \d+", f"LEAST_SORT: usize = {keys}")]
         copy_crate(work, "karras_build", name, swaps)
         table.append(f"{name}: {deps['karras_build']}")
         names.append(name)

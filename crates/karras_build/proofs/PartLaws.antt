@@ -36,6 +36,10 @@ module _ (x : Inputs) (ok : AreInputs x) where
     ];
   }
 
+  -- none are those of any numbers
+  pub no_rows : (start : ℕ) (nodes : List Node) → length nodes ≡ 0 → HasRows x start nodes
+  no_rows start nodes none = record { each = λ k. λ lt. absurd (omega (arith, none)) }
+
   -- one row
   pub row_alone : (start : ℕ) (n : Node) → IsFullRow x.keys.now x.boxes.now start n → HasRows x start (n ∷ [])
   unfolding node_at

@@ -16,7 +16,7 @@ use std::alloc::{AllocError, Global};
 use std::thread::Threads;
 
 /// How few numbers are found in place: fewer are not worth the threads.
-const LEAST_LIST: usize = 8192;
+pub(crate) const LEAST_LIST: usize = 8192;
 
 /// The first and the last position of the node of that number.
 fn range_of(keys: &[Key], number: usize) -> (usize, usize)

@@ -175,31 +175,61 @@ fn fit_joined_halves<R: Threads + Sync>(
     join_mut(rt, &mut low, &mut high)
 }
 
-/// The table of the keys, fitted to the boxes.
-fn table<R: Threads + Sync>(
-    rt: &R,
-    alloc: Global,
-    inputs: &Inputs<'_>,
-) -> Result<Vec<Node>, AllocError>
-    requires { AreInputs inputs.now }
-    ensures table { IfOk result (λ nodes. IsTable (record { keys = inputs.now.keys.now; nodes = nodes.items })) }
-    ensures fitted { IfOk result (λ nodes.
-        IsFitted (record { keys = inputs.now.keys.now; nodes = nodes.items }) inputs.now.boxes.now) }
-    ensures value { IfOk result (λ nodes. nodes.items ≡ table_of inputs.now.keys.now inputs.now.boxes.now) }
+/// A node for each number, still to be fitted: one fewer than boxes, and none for no box.
+pub(crate) fn blank_nodes(alloc: Global, boxes: &[Box3]) -> Result<Vec<Node>, AllocError>
+    ensures { IfOk result (λ nodes. length nodes.items ≡ length boxes.now - 1) }
 {
-    if inputs.keys.len() < 2 {
+    let Some(any) = boxes.first() else {
         return Ok(Vec::new(alloc));
-    }
-    let blank = Node {
+    };
+    let nothing = Node {
         first: 0,
         last: 0,
         split: 0,
-        fit: inputs.boxes[0],
+        fit: *any,
     };
-    let last = inputs.keys.len() - 1;
-    let mut nodes = vec![in alloc; blank; last]?;
-    let _whole = fit_right(rt, inputs, 0, last, &mut nodes);
-    Ok(nodes)
+    vec![in alloc; nothing; boxes.len() - 1]
+}
+
+/// The table of the keys, fitted to the boxes, in the room of these nodes.
+fn table<R: Threads + Sync>(rt: &R, inputs: &Inputs<'_>, mut nodes: Vec<Node>) -> Vec<Node>
+    requires inputs { AreInputs inputs.now }
+    requires room { length nodes.items ≡ length inputs.now.keys.now - 1 }
+    ensures table { IsTable (record { keys = inputs.now.keys.now; nodes = result.items }) }
+    ensures fitted { IsFitted (record { keys = inputs.now.keys.now; nodes = result.items }) inputs.now.boxes.now }
+    ensures value { result.items ≡ table_of inputs.now.keys.now inputs.now.boxes.now }
+{
+    let last = nodes.len();
+    if last > 0 {
+        let _whole = fit_right(rt, inputs, 0, last, &mut nodes);
+    }
+    nodes
+}
+
+/// The tree of the keys, fitted to the boxes, in the room of these nodes.
+pub(crate) fn fit_nodes<R: Threads + Sync>(
+    rt: &R,
+    keys: Vec<Key>,
+    spans: &[Span],
+    boxes: &[Box3],
+    nodes: Vec<Node>,
+) -> Tree
+    requires lawful { IsLawful keys.items }
+    requires spans { AreSpans keys.items spans.now }
+    requires count { length boxes.now ≡ length keys.items }
+    requires room { length nodes.items ≡ length keys.items - 1 }
+    ensures keys { result.keys ≡ keys.items }
+    ensures table { IsTable result }
+    ensures fitted { IsFitted result boxes.now }
+    ensures value { result.nodes ≡ table_of keys.items boxes.now }
+{
+    let inputs = Inputs {
+        keys: &keys,
+        spans,
+        boxes,
+    };
+    let nodes = table(rt, &inputs, nodes);
+    Tree::of(keys, nodes)
 }
 
 /// The tree of the keys, fitted to the boxes: `boxes[t - 1]` is the box of triangle `t`.
@@ -222,11 +252,6 @@ pub fn fit_joined<R: Threads + Sync>(
     ensures fitted { IfOk result (λ t. IsFitted t boxes.now) }
     ensures value { IfOk result (λ t. t.nodes ≡ table_of keys.items boxes.now) }
 {
-    let inputs = Inputs {
-        keys: &keys,
-        spans,
-        boxes,
-    };
-    let nodes = table(rt, alloc, &inputs).map_err(|_| Memory)?;
-    Ok(Tree::of(keys, nodes))
+    let nodes = blank_nodes(alloc, boxes).map_err(|_| Memory)?;
+    Ok(fit_nodes(rt, keys, spans, boxes, nodes))
 }

@@ -4,15 +4,19 @@
 //! any thread. The nodes below a node's two children stand apart in the list, so each half can be lent to a thread.
 #![tactic(auto)]
 
+mod building;
 mod finding;
 mod fitting;
 mod inputs;
+mod ordering;
 mod ranges;
 mod searching;
 mod ways;
 
+pub use building::tree_joined;
 pub use finding::{find, spans};
 pub use fitting::fit_joined;
+pub use ordering::order_joined;
 pub use ranges::Span;
 
 #[cfg(test)]

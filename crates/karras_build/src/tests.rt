@@ -1,8 +1,8 @@
-//! Spans worked by hand, and fitted trees beside those of the plain build.
+//! Spans worked by hand, and orders and fitted trees beside those of the plain build.
 
 ghost use Rattle.morton_key.specs.Keys.{IsLawful};
 
-use crate::{Span, find, fit_joined, spans};
+use crate::{Span, find, fit_joined, order_joined, spans, tree_joined};
 use fixed_box::{Box3, Point, Tri, box_of, in_world};
 use morton_key::{Key, order};
 use outside::Memory;
@@ -50,7 +50,7 @@ fn eight_keys_have_seven_spans(rt: HostRuntime) -> Result<(), Fail> {
     Ok(())
 }
 
-/// The trees of boxes in the world by `spans` and `fit_joined`, and by `plain`.
+/// The trees of boxes in the world by each way of this crate, which answer one tree, and by `plain`.
 fn both_trees<R: Threads + Sync + Abort>(
     rt: &R,
     alloc: Global,
@@ -61,7 +61,11 @@ fn both_trees<R: Threads + Sync + Abort>(
     let slow = plain(alloc, order(alloc, boxes)?, boxes)?;
     let keys = order(alloc, boxes)?;
     let list = spans(rt, alloc, &keys)?;
-    let fast = fit_joined(rt, alloc, keys, &list, boxes)?;
+    let fitted = fit_joined(rt, alloc, keys, &list, boxes)?;
+    let keys = order_joined(rt, alloc, boxes)?;
+    assert!(rt; keys.as_slice() == slow.keys());
+    let fast = tree_joined(rt, alloc, keys, boxes)?;
+    assert!(rt; fast.nodes() == fitted.nodes());
     Ok((fast, slow))
 }
 
@@ -134,7 +138,7 @@ fn scattered(alloc: Global, count: usize) -> Result<Vec<Box3>, AllocError> {
 #[test]
 fn many_equal_codes_have_the_tree_of_the_plain_build(rt: HostRuntime) -> Result<(), Fail> {
     // in place, and by threads
-    for count in [200, 40000] {
+    for count in [200, 100000] {
         let boxes = scattered(rt.alloc(), count)?;
         let (fast, slow) = both_trees(&rt, rt.alloc(), &boxes)?;
         assert_eq!(rt; fast.nodes().len(), count - 1);

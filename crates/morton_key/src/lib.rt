@@ -11,7 +11,7 @@ mod ordering;
 pub use agreement::delta;
 pub use interleaving::code;
 pub use keys::{Key, LEVELS, POSITION_WIDTH, WIDTH};
-pub use ordering::order;
+pub use ordering::{order, unsorted};
 
 #[cfg(test)]
 mod tests;

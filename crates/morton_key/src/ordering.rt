@@ -11,8 +11,8 @@ use fixed_box::Box3;
 use outside::Memory;
 use std::alloc::{AllocError, Global};
 
-/// The keys in the order of the triangles.
-fn unsorted(alloc: Global, boxes: &[Box3]) -> Result<Vec<Key>, AllocError>
+/// The keys one after another, as the triangles come.
+fn listed(alloc: Global, boxes: &[Box3]) -> Result<Vec<Key>, AllocError>
     requires few { length boxes.now ≤ 2 ^ POSITION_WIDTH }
     requires world { All BoxInWorld boxes.now }
     ensures { IfOk result (λ keys. keys.items ≡ keys_from 1 boxes.now) }
@@ -27,6 +27,18 @@ fn unsorted(alloc: Global, boxes: &[Box3]) -> Result<Vec<Key>, AllocError>
     Ok(keys)
 }
 
+/// The keys in the order of the triangles' numbers, for a sort: that of `order` or another one.
+///
+/// `boxes[t - 1]` is the box of triangle `t`; there are at most `2 ^ POSITION_WIDTH` of them, all in the world. It takes
+/// memory for the keys alone.
+pub fn unsorted(alloc: Global, boxes: &[Box3]) -> Result<Vec<Key>, Memory>
+    requires few { length boxes.now ≤ 2 ^ POSITION_WIDTH }
+    requires world { All BoxInWorld boxes.now }
+    ensures { IfOk result (λ keys. keys.items ≡ keys_from 1 boxes.now) }
+{
+    listed(alloc, boxes).map_err(|_| Memory)
+}
+
 /// The keys of the triangles in order: by code, and where codes are equal by number.
 ///
 /// `boxes[t - 1]` is the box of triangle `t`; there are at most `2 ^ POSITION_WIDTH` of them, all in the world. The
@@ -39,7 +51,7 @@ pub fn order(alloc: Global, boxes: &[Box3]) -> Result<Vec<Key>, Memory>
     ensures lawful { IfOk result (λ keys. IsLawful keys.items) }
     ensures count { IfOk result (λ keys. length keys.items ≡ length boxes.now) }
 {
-    let mut keys = unsorted(alloc, boxes).map_err(|_| Memory)?;
+    let mut keys = unsorted(alloc, boxes)?;
     keys.sort_unstable();
     Ok(keys)
 }

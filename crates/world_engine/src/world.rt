@@ -8,8 +8,7 @@ use crate::corners::{Corners, boxes_of};
 use crate::grouping::group_list;
 use command_line::{Build, MOST_WORKERS};
 use fixed_box::{Box3, Point};
-use karras_build::{fit_joined, spans};
-use morton_key::order;
+use karras_build::{order_joined, tree_joined};
 use obj_text::Mesh;
 use outside::{Gate, Memory};
 use query_script::{Ask, HitFraction, LineFault, Reply};
@@ -63,9 +62,8 @@ impl World {
         ensures { IfOk result (λ world. world ≡ world_of mesh) }
     {
         let boxes = boxes_of(alloc, mesh.points(), mesh.faces())?;
-        let keys = order(alloc, &boxes)?;
-        let spans = spans(rt, alloc, &keys)?;
-        let tree = fit_joined(rt, alloc, keys, &spans, &boxes)?;
+        let keys = order_joined(rt, alloc, &boxes)?;
+        let tree = tree_joined(rt, alloc, keys, &boxes)?;
         Ok(World {
             mesh,
             boxes,

@@ -1,26 +1,32 @@
-use Rattle.std.proofs.Common.{◌≡◌, ◌-◌, length, take, drop, ◌++◌, subst, sym, ◌∙◌}
-use Rattle.std.proofs.lemmas.List.{take_at}
-use Rattle.radix_tree.proofs.FillLaws.{IsFull}
-use Rattle.radix_tree.proofs.OneTable.{table_is, few_have_none}
-use Rattle.karras_build.proofs.PartLaws.{full}
+use Rattle.std.proofs.Common.{◌≡◌, ◌-◌, length, ap, sym, ◌∙◌, arith, rules}
+use Rattle.std.proofs.lemmas.List.{with_items_is}
+use Rattle.radix_tree.proofs.OneTable.{table_is}
+use Rattle.karras_build.proofs.PartLaws.{root_part, no_rows, full}
 use Rattle.karras_build.proofs.fitting.table.Goals as goal
 
-pub returns-then-inputs-lt2-clause-value : goal.returns-then-inputs-lt2-clause-value
-returns-then-inputs-lt2-clause-value g c = c.new.ensures.items
-    ∙ sym (few_have_none c.args.inputs.now.keys.now c.args.inputs.now.boxes.now c.if-inputs-lt2.true)
+pub fit_right-whole-requires-clause-part : goal.fit_right-whole-requires-clause-part
+fit_right-whole-requires-clause-part g c κs within =
+    let x = c.args.inputs.now in
+    let same = ap length c.deref_mut.ensures.value in
+    let whole : c.len-last.result ≡ length x.keys.now - 1 =
+    c.len-last.ensures ∙ (sym c.deref_mut.ensures.len ∙ (same ∙ c.requires.room)) in
+    root_part x c.requires.inputs _ _ whole (omega (arith, c.if-last-gt0.true)) (same ∙ (c.requires.room ∙ sym whole))
 
-pub returns : goal.returns
-returns g c =
+pub returns-then-last-gt0-clause-value : goal.returns-then-last-gt0-clause-value
+returns-then-last-gt0-clause-value g c =
     let x = c.args.inputs.now in
     let nodes = c.fit_right-whole.new.part in
-    let kept : length nodes ≡ c.in_ok-nodes.nodes.len = c.fit_right-whole.auto.part ∙ c.deref_mut.ensures.len in
-    let count : length nodes ≡ length x.keys.now - 1 = kept ∙ c.in_ok-nodes.ensures.len in
-    let whole : take c.in_ok-nodes.nodes.len (nodes ++ drop (length nodes) c.in_ok-nodes.nodes.items) ≡ nodes =
-    take_at nodes (drop (length nodes) c.in_ok-nodes.nodes.items) c.in_ok-nodes.nodes.len kept in
-    let at = subst (λ xs. IsFull x.keys.now x.boxes.now xs) (sym whole)
-    (full x c.requires nodes count c.fit_right-whole.ensures.rows) in
-    record {
-      table = at.table;
-      fitted = at.fitted;
-      value = table_is (record { keys = x.keys.now; nodes = _ }) x.boxes.now at.table at.fitted;
-    }
+    let kept : length nodes ≡ length c.deref_mut.result.now = c.fit_right-whole.auto.part in
+    let count : length nodes ≡ length x.keys.now - 1 =
+    kept ∙ (ap length c.deref_mut.ensures.value ∙ c.requires.room) in
+    let at = full x c.requires.inputs nodes count c.fit_right-whole.ensures.rows in
+    with_items_is c.args.nodes nodes (kept ∙ c.deref_mut.ensures.len)
+    ∙ table_is (record { keys = x.keys.now; nodes = nodes }) x.boxes.now at.table at.fitted
+
+pub returns-else-last-gt0-clause-value : goal.returns-else-last-gt0-clause-value
+returns-else-last-gt0-clause-value g c =
+    let x = c.args.inputs.now in
+    let nodes = c.args.nodes.items in
+    let none : length nodes ≡ 0 = search rules in
+    let at = full x c.requires.inputs nodes c.requires.room (no_rows x c.requires.inputs 0 nodes none) in
+    table_is (record { keys = x.keys.now; nodes = nodes }) x.boxes.now at.table at.fitted

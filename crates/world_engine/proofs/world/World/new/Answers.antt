@@ -14,6 +14,6 @@ invariant_of-result g c =
     record {
       each = boxes;
       keys = c.in_ok-tree.ensures.keys ∙ keys;
-      nodes = c.in_ok-tree.ensures.value ∙ ap₂ table_of keys (c.deref-4.ensures.value ∙ boxes);
-      fitted = subst (λ bs. IsFitted c.in_ok-tree.tree bs) c.deref-4.ensures.value c.in_ok-tree.ensures.fitted;
+      nodes = c.in_ok-tree.ensures.value ∙ ap₂ table_of keys (c.deref-2.ensures.value ∙ boxes);
+      fitted = subst (λ bs. IsFitted c.in_ok-tree.tree bs) c.deref-2.ensures.value c.in_ok-tree.ensures.fitted;
     }

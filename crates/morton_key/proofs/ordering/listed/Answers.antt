@@ -1,5 +1,5 @@
 use Rattle.morton_key.proofs.OrderLaws.{keys_from_more, keys_from_all}
-use Rattle.morton_key.proofs.ordering.unsorted.Goals as goal
+use Rattle.morton_key.proofs.ordering.listed.Goals as goal
 
 pub loop-i-preserved : goal.loop-i-preserved
 loop-i-preserved c =
