@@ -1,9 +1,9 @@
 -- The triangles of an `f` line, taken corner by corner.
-use Rattle.std.proofs.Common.{◌≡◌, ◌≤◌, ◌<◌, ◌+◌, ℕ, Bool, true, false, List, [], ◌∷◌, ◌++◌, length, length-append, append-nil, append_assoc, cond, refl, sym, ap, ◌∙◌, arith, Ok, Err, Result}
+use Rattle.std.proofs.Common.{◌≡◌, ◌≤◌, ◌<◌, ◌+◌, ℕ, Bool, true, false, List, [], ◌∷◌, ◌++◌, length, length-append, append-nil, append_assoc, drop, cond, refl, sym, ap, ◌∙◌, arith, Ok, Err, Result}
 use Rattle.std.specs.Prelude.{nat_le, IfErr, ⊤}
 use Rattle.fixed_box.specs.declared.shapes.Point.{Point}
 use Rattle.obj_text.specs.Rows.{Given, Triangles, onward, position_of, positions_of, fan_from, fan, more_triangles, triangles_of, vertex_of}
-use Rattle.obj_text.specs.Steps.{IsAdded, IsLineFault, extended, few, fan_left}
+use Rattle.obj_text.specs.Steps.{IsAdded, IsLineFault, IsOutcome, extended, few, fan_left, all_three, first_corners_of}
 use Rattle.obj_text.specs.declared.line_fault.LineFault.{LineFault}
 use Rattle.obj_text.specs.declared.line_fault.LineFault.TheVariants.{Faulty, Memory}
 use Rattle.obj_text.specs.declared.face.Face.{Face}
@@ -21,56 +21,67 @@ too_many faces p =
     let e : nat_le (length faces) MOST_FACES ≡ false = grind (arith, p) in
     ap (λ k. cond k (Ok faces) (Err TooManyTriangles)) e
 
-next_by : (faces : List Face) (first last next : ℕ) (corners : Result (List ℕ) Why)
-    → onward (onward corners (λ more. Ok (next ∷ more))) (λ all. few (faces ++ fan_from first last all))
-    ≡ onward corners (λ all. few ((faces ++ record { a = first; b = last; c = next } ∷ []) ++ fan_from first next all))
-next_by faces first last next (Err why) = refl
-next_by faces first last next (Ok all) =
-    ap few (sym (append_assoc faces (record { a = first; b = last; c = next } ∷ []) (fan_from first next all)))
+next_by : (faces : List Face) (first last next more : ℕ) (corners : Result (List ℕ) Why)
+    → onward (onward corners (λ all. Ok (more ∷ all))) (λ all. few (faces ++ fan_from first last (next ∷ all)))
+    ≡ onward corners (λ all. few ((faces ++ record { a = first; b = last; c = next } ∷ []) ++ fan_from first next (more ∷ all)))
+next_by faces first last next more (Err why) = refl
+next_by faces first last next more (Ok all) =
+    ap few (sym (append_assoc faces (record { a = first; b = last; c = next } ∷ []) (fan_from first next (more ∷ all))))
 
--- a corner more, where there is room for its triangle
-pub fan_next : (vertices before first last next : ℕ) (faces : List Face) (word : List ℕ) (words : List (List ℕ))
-    → position_of vertices before word ≡ Ok next
-    → fan_left vertices before false faces first last (word ∷ words)
-    ≡ fan_left vertices before false (faces ++ record { a = first; b = last; c = next } ∷ []) first next words
-fan_next vertices before first last next faces word words e =
-    ap (λ p. onward (onward p (λ corner. onward (positions_of vertices before words) (λ more. Ok (corner ∷ more))))
-    (λ all. few (faces ++ fan_from first last all))) e
-    ∙ next_by faces first last next (positions_of vertices before words)
+-- a corner more, where there was room for a triangle
+pub fan_next : (vertices before first last next more : ℕ) (faces : List Face) (word : List ℕ) (words : List (List ℕ))
+    → position_of vertices before word ≡ Ok more
+    → fan_left vertices before false faces first last next (word ∷ words)
+    ≡ fan_left vertices before false (faces ++ record { a = first; b = last; c = next } ∷ []) first next more words
+fan_next vertices before first last next more faces word words e =
+    ap (λ p. onward (onward p (λ corner. onward (positions_of vertices before words) (λ all. Ok (corner ∷ all))))
+    (λ all. few (faces ++ fan_from first last (next ∷ all)))) e
+    ∙ next_by faces first last next more (positions_of vertices before words)
 
-past_by : (over : Bool) (faces : List Face) (first last next : ℕ) (corners : Result (List ℕ) Why)
+past_by : (over : Bool) (faces : List Face) (first last next more : ℕ) (corners : Result (List ℕ) Why)
     → MOST_FACES ≤ length faces
-    → onward (onward corners (λ more. Ok (next ∷ more)))
-    (λ all. cond over (Err TooManyTriangles) (few (faces ++ fan_from first last all)))
+    → onward (onward corners (λ all. Ok (more ∷ all)))
+    (λ all. cond over (Err TooManyTriangles) (few (faces ++ fan_from first last (next ∷ all))))
     ≡ onward corners (λ all. Err TooManyTriangles)
-past_by over faces first last next (Err why) p = refl
-past_by true faces first last next (Ok all) p = refl
-past_by false faces first last next (Ok all) p =
-    let more = record { a = first; b = last; c = next } ∷ fan_from first next all in
-    too_many (faces ++ more) (omega (arith, p, length-append faces more))
+past_by over faces first last next more (Err why) p = refl
+past_by true faces first last next more (Ok all) p = refl
+past_by false faces first last next more (Ok all) p =
+    let added = fan_from first last (next ∷ more ∷ all) in
+    too_many (faces ++ added) (omega (arith, p, length-append faces added))
 
--- a corner more, where there is none
-pub fan_past : (vertices before first last next : ℕ) (over : Bool) (faces : List Face) (word : List ℕ)
-    (words : List (List ℕ)) → position_of vertices before word ≡ Ok next → MOST_FACES ≤ length faces
-    → fan_left vertices before over faces first last (word ∷ words)
-    ≡ fan_left vertices before true faces first next words
-fan_past vertices before first last next over faces word words e p =
-    ap (λ q. onward (onward q (λ corner. onward (positions_of vertices before words) (λ more. Ok (corner ∷ more))))
-    (λ all. cond over (Err TooManyTriangles) (few (faces ++ fan_from first last all)))) e
-    ∙ past_by over faces first last next (positions_of vertices before words) p
+-- a corner more, where there was none
+pub fan_past : (vertices before first last next more : ℕ) (over : Bool) (faces : List Face) (word : List ℕ)
+    (words : List (List ℕ)) → position_of vertices before word ≡ Ok more → MOST_FACES ≤ length faces
+    → fan_left vertices before over faces first last next (word ∷ words)
+    ≡ fan_left vertices before true faces first next more words
+fan_past vertices before first last next more over faces word words e p =
+    ap (λ q. onward (onward q (λ corner. onward (positions_of vertices before words) (λ all. Ok (corner ∷ all))))
+    (λ all. cond over (Err TooManyTriangles) (few (faces ++ fan_from first last (next ∷ all))))) e
+    ∙ past_by over faces first last next more (positions_of vertices before words) p
 
 -- a word that names no corner
-pub fan_fault : (vertices before first last : ℕ) (over : Bool) (faces : List Face) (word : List ℕ)
+pub fan_fault : (vertices before first last next : ℕ) (over : Bool) (faces : List Face) (word : List ℕ)
     (words : List (List ℕ)) (why : Why) → position_of vertices before word ≡ Err why
-    → fan_left vertices before over faces first last (word ∷ words) ≡ Err why
-fan_fault vertices before first last over faces word words why e =
-    ap (λ q. onward (onward q (λ corner. onward (positions_of vertices before words) (λ more. Ok (corner ∷ more))))
-    (λ all. cond over (Err TooManyTriangles) (few (faces ++ fan_from first last all)))) e
+    → fan_left vertices before over faces first last next (word ∷ words) ≡ Err why
+fan_fault vertices before first last next over faces word words why e =
+    ap (λ q. onward (onward q (λ corner. onward (positions_of vertices before words) (λ all. Ok (corner ∷ all))))
+    (λ all. cond over (Err TooManyTriangles) (few (faces ++ fan_from first last (next ∷ all))))) e
 
--- the end of a line
-pub fan_done : (vertices before first last : ℕ) (faces : List Face) → length faces ≤ MOST_FACES
-    → fan_left vertices before false faces first last [] ≡ Ok faces
-fan_done vertices before first last faces p = ap few (append-nil faces) ∙ few_enough faces p
+-- the end of a line, with room for the last triangle
+pub fan_done : (vertices before first last next : ℕ) (faces : List Face) → length faces < MOST_FACES
+    → fan_left vertices before false faces first last next []
+    ≡ Ok (faces ++ record { a = first; b = last; c = next } ∷ [])
+fan_done vertices before first last next faces p =
+    let face : List Face = record { a = first; b = last; c = next } ∷ [] in
+    few_enough (faces ++ face) (omega (arith, p, length-append faces face))
+
+-- the end of a line, with none
+pub fan_full : (vertices before first last next : ℕ) (over : Bool) (faces : List Face) → MOST_FACES ≤ length faces
+    → fan_left vertices before over faces first last next [] ≡ Err TooManyTriangles
+fan_full vertices before first last next true faces p = refl
+fan_full vertices before first last next false faces p =
+    let face : List Face = record { a = first; b = last; c = next } ∷ [] in
+    too_many (faces ++ face) (omega (arith, p, length-append faces face))
 
 same_by : (k : Bool) (faces more : List Face)
     → extended faces (cond k (Ok (Triangles more)) (Err TooManyTriangles))
@@ -78,49 +89,41 @@ same_by : (k : Bool) (faces more : List Face)
 same_by true faces more = refl
 same_by false faces more = refl
 
-line_by : (faces : List Face) (first second : ℕ) (corners : Result (List ℕ) Why)
-    → extended faces (onward (onward (onward corners (λ more. Ok (second ∷ more))) (λ more. Ok (first ∷ more)))
+line_by : (faces : List Face) (a b c : Result ℕ Why) (corners : Result (List ℕ) Why)
+    → extended faces (onward
+    (onward a (λ x. onward (onward b (λ y. onward (onward c (λ z. onward corners (λ all. Ok (z ∷ all))))
+    (λ all. Ok (y ∷ all)))) (λ all. Ok (x ∷ all))))
     (λ all. more_triangles (length faces) (fan all)))
-    ≡ onward corners (λ all. few (faces ++ fan_from first second all))
-line_by faces first second (Err why) = refl
-line_by faces first second (Ok all) =
-    let more = fan_from first second all in
+    ≡ onward (all_three a b c) (λ t. onward corners (λ all. few (faces ++ fan_from t.0 t.1 (t.2 ∷ all))))
+line_by faces (Err why) b c corners = refl
+line_by faces (Ok x) (Err why) c corners = refl
+line_by faces (Ok x) (Ok y) (Err why) corners = refl
+line_by faces (Ok x) (Ok y) (Ok z) (Err why) = refl
+line_by faces (Ok x) (Ok y) (Ok z) (Ok all) =
+    let more = fan_from x y (z ∷ all) in
     same_by (nat_le (length faces + length more) MOST_FACES) faces more
     ∙ ap (λ n. cond (nat_le n MOST_FACES) (Ok (faces ++ more)) (Err TooManyTriangles)) (sym (length-append faces more))
 
--- the triangles of a line whose first two corners are known
-pub line_begun : (vertices before first second : ℕ) (faces : List Face) (x y z : List ℕ) (words all : List (List ℕ))
-    → all ≡ x ∷ y ∷ z ∷ words → position_of vertices before x ≡ Ok first → position_of vertices before y ≡ Ok second
-    → extended faces (triangles_of vertices before (length faces) all)
-    ≡ fan_left vertices before false faces first second (z ∷ words)
-line_begun vertices before first second faces x y z words all is e f =
-    let rest = positions_of vertices before (z ∷ words) in
-    let read = λ (p q : Result ℕ Why). extended faces (onward
-    (onward p (λ corner.
-    onward (onward q (λ next. onward rest (λ more. Ok (next ∷ more)))) (λ more. Ok (corner ∷ more))))
-    (λ all. more_triangles (length faces) (fan all))) in
-    ap (λ k. extended faces (triangles_of vertices before (length faces) k)) is
-    ∙ ap (λ p. read p (position_of vertices before y)) e ∙ ap (read (Ok first)) f
-    ∙ line_by faces first second rest
+-- the triangles of a line are those of the fan behind its first three corners
+pub line_begun : (vertices before : ℕ) (faces : List Face) (words : List (List ℕ))
+    → extended faces (triangles_of vertices before (length faces) words)
+    ≡ onward (first_corners_of vertices before words) (λ t.
+    fan_left vertices before false faces t.0 t.1 t.2 (drop 3 words))
+line_begun vertices before faces [] = refl
+line_begun vertices before faces (x ∷ []) = refl
+line_begun vertices before faces (x ∷ y ∷ []) = refl
+line_begun vertices before faces (x ∷ y ∷ z ∷ words) =
+    line_by faces (position_of vertices before x) (position_of vertices before y) (position_of vertices before z)
+    (positions_of vertices before words)
 
--- a first corner that is none
-pub first_fault : (vertices before triangles : ℕ) (x y z : List ℕ) (words : List (List ℕ)) (why : Why)
-    → position_of vertices before x ≡ Err why → triangles_of vertices before triangles (x ∷ y ∷ z ∷ words) ≡ Err why
-first_fault vertices before triangles x y z words why e =
-    ap (λ p. onward (onward p (λ corner. onward (positions_of vertices before (y ∷ z ∷ words)) (λ more.
-    Ok (corner ∷ more)))) (λ all. more_triangles triangles (fan all))) e
-
--- a second corner that is none
-pub second_fault : (vertices before triangles first : ℕ) (x y z : List ℕ) (words : List (List ℕ)) (why : Why)
-    → position_of vertices before x ≡ Ok first → position_of vertices before y ≡ Err why
-    → triangles_of vertices before triangles (x ∷ y ∷ z ∷ words) ≡ Err why
-second_fault vertices before triangles first x y z words why e f =
-    let rest = positions_of vertices before (z ∷ words) in
-    let read = λ (p q : Result ℕ Why). onward
-    (onward p (λ corner.
-    onward (onward q (λ next. onward rest (λ more. Ok (next ∷ more)))) (λ more. Ok (corner ∷ more))))
-    (λ all. more_triangles triangles (fan all)) in
-    ap (λ p. read p (position_of vertices before y)) e ∙ ap (read (Ok first)) f
+-- a line whose first three corners are known
+pub line_known : (vertices before : ℕ) (faces : List Face) (words : List (List ℕ)) (t : ℕ × ℕ × ℕ)
+    → first_corners_of vertices before words ≡ Ok t
+    → extended faces (triangles_of vertices before (length faces) words)
+    ≡ fan_left vertices before false faces t.0 t.1 t.2 (drop 3 words)
+line_known vertices before faces words t e =
+    line_begun vertices before faces words
+    ∙ ap (λ o. onward o (λ u. fan_left vertices before false faces u.0 u.1 u.2 (drop 3 words))) e
 
 -- what is no extension has a fault
 pub extended_fault : (faces : List Face) (outcome : Result Given Why) (why : Why) → extended faces outcome ≡ Err why
@@ -128,13 +131,29 @@ pub extended_fault : (faces : List Face) (outcome : Result Given Why) (why : Why
 extended_fault faces (Ok given) why e = absurd (cc)
 extended_fault faces (Err other) why e = let same : other ≡ why = cc in ap Err same
 
+-- a line whose first three corners have a fault
+pub corners_fault : (vertices before : ℕ) (faces : List Face) (words : List (List ℕ)) (why : Why)
+    → first_corners_of vertices before words ≡ Err why → triangles_of vertices before (length faces) words ≡ Err why
+corners_fault vertices before faces words why e =
+    extended_fault faces (triangles_of vertices before (length faces) words) why
+    (line_begun vertices before faces words
+    ∙ ap (λ o. onward o (λ u. fan_left vertices before false faces u.0 u.1 u.2 (drop 3 words))) e)
+
+-- what a refusal of its first three corners says of a line
+pub corners_have_fault : (vertices before : ℕ) (faces : List Face) (words : List (List ℕ))
+    (result : Result (ℕ × ℕ × ℕ) LineFault) → IsOutcome (first_corners_of vertices before words) result
+    → IfErr result (IsLineFault (triangles_of vertices before (length faces) words))
+corners_have_fault vertices before faces words (Ok t) p = tt
+corners_have_fault vertices before faces words (Err (Faulty why)) p = corners_fault vertices before faces words why p
+corners_have_fault vertices before faces words (Err Memory) p = tt
+
 -- a line of few words
-pub few_triangles : (vertices before triangles : ℕ) (words : List (List ℕ)) → length words < 3
-    → triangles_of vertices before triangles words ≡ Err TooFewWords
-few_triangles vertices before triangles [] p = refl
-few_triangles vertices before triangles (x ∷ []) p = refl
-few_triangles vertices before triangles (x ∷ y ∷ []) p = refl
-few_triangles vertices before triangles (x ∷ y ∷ z ∷ words) p = absurd (omega (arith, p))
+pub few_corners : (vertices before : ℕ) (words : List (List ℕ)) → length words < 3
+    → first_corners_of vertices before words ≡ Err TooFewWords
+few_corners vertices before [] p = refl
+few_corners vertices before (x ∷ []) p = refl
+few_corners vertices before (x ∷ y ∷ []) p = refl
+few_corners vertices before (x ∷ y ∷ z ∷ words) p = absurd (omega (arith, p))
 
 pub few_coordinates : (unit before : ℕ) (words : List (List ℕ)) → length words < 3
     → vertex_of unit before words ≡ Err TooFewWords

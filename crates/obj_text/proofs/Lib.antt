@@ -1,4 +1,5 @@
 pub mod Fans
+pub mod PlainReferences
 pub mod Givens
 pub mod FirstSeen
 pub mod Grouping

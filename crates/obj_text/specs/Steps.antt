@@ -1,13 +1,13 @@
 -- What one line adds to what was read before it. No public clause cites this module.
-use Rattle.std.specs.Prelude.{◌≡◌, ⊤, ℕ, Bool, List, ◌++◌, nat_le, length, if◌then◌else◌, Result, Ok, Err, Option, None, Some, true}
+use Rattle.std.specs.Prelude.{◌≡◌, ⊤, ℕ, Bool, List, ◌∷◌, ◌++◌, nat_le, length, if◌then◌else◌, Result, Ok, Err, Option, None, Some, true}
 use Rattle.std.specs.List.{list_any, position_or_len}
 use Rattle.std.specs.Str.{bytes_eq}
 use Rattle.fixed_box.specs.declared.shapes.Point.{Point}
-use Rattle.obj_text.specs.Rows.{Given, onward, points_of, faces_of, name_after, positions_of, fan_from}
+use Rattle.obj_text.specs.Rows.{Given, onward, points_of, faces_of, name_after, position_of, positions_of, fan_from}
 use Rattle.obj_text.specs.declared.face.Face.{Face}
 use Rattle.obj_text.specs.declared.limits.TheConstants.{MOST_FACES}
 use Rattle.obj_text.specs.declared.fault.Why.{Why}
-use Rattle.obj_text.specs.declared.fault.Why.TheVariants.{TooManyTriangles}
+use Rattle.obj_text.specs.declared.fault.Why.TheVariants.{TooFewWords, TooManyTriangles}
 use Rattle.obj_text.specs.declared.line_fault.LineFault.{LineFault}
 use Rattle.obj_text.specs.declared.line_fault.LineFault.TheVariants.{Faulty, Memory}
 
@@ -42,20 +42,30 @@ KeepsGroup name next known (Some place) = (next ≡ name) × (known ≡ Some pla
 abbrev pub few : List Face → Result (List Face) Why
 few faces = if nat_le (length faces) MOST_FACES then Ok faces else Err TooManyTriangles
 
--- the faces at the end of a line, where these words of it are left, the fan stands at these corners, and it is known
--- or not that there are too many
-abbrev pub fan_left : ℕ → ℕ → Bool → List Face → ℕ → ℕ → List (List ℕ) → Result (List Face) Why
-fan_left vertices before over faces first last words =
+-- the faces at the end of a line, where these words of it are left, the fan stands at these corners, of which the last
+-- two have no triangle yet, and it is known or not that there are too many
+abbrev pub fan_left : ℕ → ℕ → Bool → List Face → ℕ → ℕ → ℕ → List (List ℕ) → Result (List Face) Why
+fan_left vertices before over faces first last next words =
     onward (positions_of vertices before words) (λ corners.
-    if over then Err TooManyTriangles else few (faces ++ fan_from first last corners))
+    if over then Err TooManyTriangles else few (faces ++ fan_from first last (next ∷ corners)))
+
+-- three values, or the fault of the first that has one
+abbrev pub all_three : Result ℕ Why → Result ℕ Why → Result ℕ Why → Result (ℕ × ℕ × ℕ) Why
+all_three a b c = onward a (λ x. onward b (λ y. onward c (λ z. Ok (x, y, z))))
+
+-- the first three corners of a line
+abbrev pub first_corners_of : ℕ → ℕ → List (List ℕ) → Result (ℕ × ℕ × ℕ) Why
+first_corners_of vertices before (x ∷ y ∷ z ∷ words) =
+    all_three (position_of vertices before x) (position_of vertices before y) (position_of vertices before z)
+first_corners_of vertices before words = Err TooFewWords
 
 -- what a refusal of a line says of it; want of memory says nothing
 abbrev pub IsLineFault : {A : Type 0} → Result A Why → LineFault → Type 0
 IsLineFault outcome (Faulty why) = outcome ≡ Err why
 IsLineFault outcome Memory = ⊤
 
--- the position of a corner, as one line answers it
-abbrev pub IsCorner : Result ℕ Why → Result ℕ LineFault → Type 0
-IsCorner outcome (Ok corner) = outcome ≡ Ok corner
-IsCorner outcome (Err (Faulty why)) = outcome ≡ Err why
-IsCorner outcome (Err Memory) = ⊥
+-- an outcome, as one line answers it
+abbrev pub IsOutcome : {A : Type 0} → Result A Why → Result A LineFault → Type 0
+IsOutcome outcome (Ok value) = outcome ≡ Ok value
+IsOutcome outcome (Err (Faulty why)) = outcome ≡ Err why
+IsOutcome outcome (Err Memory) = ⊥

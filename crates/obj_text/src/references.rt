@@ -28,7 +28,8 @@ pub fn position(word: &[u8], vertices: &mut VertexCount, before: u32) -> Result<
     }
 }
 
-fn from_start(number: u32, vertices: &mut VertexCount, before: u32) -> Result<u32, Why>
+/// The position of the vertex that a number without a sign names.
+pub fn from_start(number: u32, vertices: &mut VertexCount, before: u32) -> Result<u32, Why>
     requires { before ≤ vertices.old }
     ensures position { result ≡ position vertices.old 0 false number }
     ensures same { vertices.new ≡ vertices.old }

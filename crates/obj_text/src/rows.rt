@@ -1,10 +1,10 @@
 //! One line of a mesh text, read. What it may name depends on how many vertices the whole text has, so a face may stand
 //! before its vertices.
 
-ghost use Rattle.std.specs.Prelude.{◌≡◌, ◌<◌, ◌≤◌, ◌∷◌, ◌++◌, [], length, MatchOption, MatchResult, OnOk, IfErr, IfOk, Ok, false};
-ghost use Rattle.obj_text.specs.Rows.{given_of, vertex_of, triangles_of, name_of, position_of};
+ghost use Rattle.std.specs.Prelude.{◌≡◌, ◌<◌, ◌≤◌, ◌∷◌, ◌++◌, [], length, drop, MatchOption, MatchResult, OnOk, IfErr, IfOk, Ok, false};
+ghost use Rattle.obj_text.specs.Rows.{given_of, vertex_of, triangles_of, name_of, position, position_of};
 ghost use Rattle.obj_text.specs.Rows.{Vertex};
-ghost use Rattle.obj_text.specs.Steps.{IsAdded, KeepsGroup, IsLineFault, IsCorner, extended, fan_left};
+ghost use Rattle.obj_text.specs.Steps.{IsAdded, KeepsGroup, IsLineFault, IsOutcome, extended, all_three, first_corners_of, fan_left};
 
 use crate::coordinates::point;
 use crate::face::Face;
@@ -12,7 +12,7 @@ use crate::fault::Why;
 use crate::gathered::Gathered;
 use crate::limits::{GREATEST_NUMBER, MOST_FACES, MOST_POINTS};
 use crate::line_fault::LineFault;
-use crate::references::position;
+use crate::references::{from_start, position};
 use crate::vertex_count::VertexCount;
 use fixed_box::Point;
 use text_words::JoinedLines;
@@ -126,18 +126,85 @@ fn triangles(
     ensures later { line.new.later ≡ line.old.later }
     ensures same { vertices.new ≡ vertices.old }
 {
+    let (first, second, third) = first_corners(line, vertices, before)?;
+    fan(line, vertices, before, first, second, third, faces)
+}
+
+/// The first three corners of a line. Most are numbers in digits alone, which are read in one pass.
+fn first_corners(
+    line: &mut JoinedLines,
+    vertices: &mut VertexCount,
+    before: u32,
+) -> Result<(u32, u32, u32), LineFault>
+    requires vertices { vertices.old < GREATEST_NUMBER }
+    requires before { before ≤ vertices.old }
+    ensures corners { IsOutcome (first_corners_of vertices.old before line.old.words) result }
+    ensures words { OnOk result (line.new.words ≡ drop 3 line.old.words) }
+    ensures later { line.new.later ≡ line.old.later }
+    ensures same { vertices.new ≡ vertices.old }
+{
+    match line.three_numbers() {
+        Some((a, b, c)) => numbered_corners(a, b, c, vertices, before),
+        None => worded_corners(line, vertices, before),
+    }
+}
+
+/// The corners that three numbers name.
+fn numbered_corners(
+    a: u32,
+    b: u32,
+    c: u32,
+    vertices: &mut VertexCount,
+    before: u32,
+) -> Result<(u32, u32, u32), LineFault>
+    requires before { before ≤ vertices.old }
+    ensures corners { IsOutcome (all_three (position vertices.old 0 false a) (position vertices.old 0 false b)
+        (position vertices.old 0 false c)) result }
+    ensures same { vertices.new ≡ vertices.old }
+{
+    let a = numbered_corner(a, vertices, before)?;
+    let b = numbered_corner(b, vertices, before)?;
+    let c = numbered_corner(c, vertices, before)?;
+    Ok((a, b, c))
+}
+
+fn numbered_corner(number: u32, vertices: &mut VertexCount, before: u32) -> Result<u32, LineFault>
+    requires before { before ≤ vertices.old }
+    ensures corner { IsOutcome (position vertices.old 0 false number) result }
+    ensures same { vertices.new ≡ vertices.old }
+{
+    match from_start(number, vertices, before) {
+        Ok(corner) => Ok(corner),
+        Err(why) => Err(LineFault::Faulty(why)),
+    }
+}
+
+/// The corners that the next three words name, in whichever form.
+fn worded_corners(
+    line: &mut JoinedLines,
+    vertices: &mut VertexCount,
+    before: u32,
+) -> Result<(u32, u32, u32), LineFault>
+    requires vertices { vertices.old < GREATEST_NUMBER }
+    requires before { before ≤ vertices.old }
+    ensures corners { IsOutcome (first_corners_of vertices.old before line.old.words) result }
+    ensures words { OnOk result (line.new.words ≡ drop 3 line.old.words) }
+    ensures later { line.new.later ≡ line.old.later }
+    ensures same { vertices.new ≡ vertices.old }
+{
     let Some((a, b, c)) = three(line) else {
         return Err(LineFault::Faulty(Why::TooFewWords));
     };
-    let first = corner(a, vertices, before)?;
-    let second = corner(b, vertices, before)?;
-    fan(line, vertices, before, first, second, c, faces)
+    let a = corner(a, vertices, before)?;
+    let b = corner(b, vertices, before)?;
+    let c = corner(c, vertices, before)?;
+    Ok((a, b, c))
 }
 
 fn corner(word: &[u8], vertices: &mut VertexCount, before: u32) -> Result<u32, LineFault>
     requires vertices { vertices.old < GREATEST_NUMBER }
     requires before { before ≤ vertices.old }
-    ensures corner { IsCorner (position_of vertices.old before word.now) result }
+    ensures corner { IsOutcome (position_of vertices.old before word.now) result }
     ensures same { vertices.new ≡ vertices.old }
 {
     match position(word, vertices, before) {
@@ -146,31 +213,30 @@ fn corner(word: &[u8], vertices: &mut VertexCount, before: u32) -> Result<u32, L
     }
 }
 
-/// Adds the triangles of a fan, whose first two corners are known, at a third word and at those behind it.
-fn fan<'a>(
-    line: &mut JoinedLines<'a>,
+/// Adds the triangles of a fan, whose first three corners are known, at the third and at the words that are left.
+fn fan(
+    line: &mut JoinedLines,
     vertices: &mut VertexCount,
     before: u32,
     first: u32,
     second: u32,
-    third: &'a [u8],
+    third: u32,
     faces: &mut Vec<Face>,
 ) -> Result<(), LineFault>
     requires vertices { vertices.old < GREATEST_NUMBER }
     requires before { before ≤ vertices.old }
     requires faces { length faces.now.items ≤ MOST_FACES }
-    ensures faces { OnOk result (fan_left vertices.old before false faces.old.items first second
-        (third.now ∷ line.old.words) ≡ Ok faces.new.items) }
+    ensures faces { OnOk result (fan_left vertices.old before false faces.old.items first second third line.old.words
+        ≡ Ok faces.new.items) }
     ensures fault { IfErr result (IsLineFault
-        (fan_left vertices.old before false faces.old.items first second (third.now ∷ line.old.words))) }
+        (fan_left vertices.old before false faces.old.items first second third line.old.words)) }
     ensures later { line.new.later ≡ line.old.later }
     ensures same { vertices.new ≡ vertices.old }
 {
-    let mut word = third;
     let mut last = second;
+    let mut next = third;
     let mut over = false;
     loop {
-        let next = corner(word, vertices, before)?;
         if faces.len() < MOST_FACES {
             add_face(
                 faces,
@@ -183,11 +249,11 @@ fn fan<'a>(
         } else {
             over = true;
         }
-        last = next;
-        let Some(more) = line.next_word() else {
+        let Some(word) = line.next_word() else {
             break;
         };
-        word = more;
+        last = next;
+        next = corner(word, vertices, before)?;
     }
     if over {
         return Err(LineFault::Faulty(Why::TooManyTriangles));

@@ -52,7 +52,7 @@ fn all_shown(
 
 #[test]
 fn each_form_of_line_is_read_or_passed_over(rt: HostRuntime) -> Result<(), Fail> {
-    let cases: [(&[u8], u32, &str); 24] = [
+    let cases: [(&[u8], u32, &str); 27] = [
         (b"", 65536, ""),
         (b"# v 1 2 3\n\n \t\x0b\x0c\r\nv 1 2 3", 1, "(1 2 3)"),
         (b"v 1 2 3#4\n", 1, "(1 2 3)"),
@@ -105,6 +105,21 @@ fn each_form_of_line_is_read_or_passed_over(rt: HostRuntime) -> Result<(), Fail>
         (b"v 2047.98 0 0", 64, "(131071 0 0)"),
         (b"v 0 0 0\rv 1 1 1\rf 1 1 1", 1, "(0 0 0)"),
         (b"v 1e-400 0x1 0", 1, "mesh line 1: not a number"),
+        (
+            b"v 0 0 0\nf 1\t1 1\r\nf 1 1 1#1\nf 1 1 01 1",
+            1,
+            "(0 0 0) default[0 0 0] default[0 0 0] default[0 0 0] default[0 0 0]",
+        ),
+        (
+            b"v 0 0 0\nf 1 1 \\\n1\nf 1 1 1\\\n1",
+            1,
+            "(0 0 0) default[0 0 0] default[0 0 0] default[0 0 0]",
+        ),
+        (
+            b"v 0 0 0\nv 1 0 0\nv 2 0 0\nf 3 2 1 2/2 -1",
+            1,
+            "(0 0 0)(1 0 0)(2 0 0) default[2 1 0] default[2 0 1] default[2 1 2]",
+        ),
     ];
     all_shown(&rt, rt.alloc(), &cases)?;
     Ok(())
@@ -112,7 +127,7 @@ fn each_form_of_line_is_read_or_passed_over(rt: HostRuntime) -> Result<(), Fail>
 
 #[test]
 fn the_first_fault_of_the_first_faulty_line_is_named(rt: HostRuntime) -> Result<(), Fail> {
-    let cases: [(&[u8], u32, &str); 30] = [
+    let cases: [(&[u8], u32, &str); 36] = [
         (b"v 0 0 0\nv 1 2\nv x", 64, "mesh line 2: too few words"),
         (b"v 1 x 2", 64, "mesh line 1: not a number"),
         (
@@ -167,6 +182,20 @@ fn the_first_fault_of_the_first_faulty_line_is_named(rt: HostRuntime) -> Result<
         ),
         (b"v 1 2 \\\n# 3", 1, "mesh line 1: too few words"),
         (b"v\xa01 2 3\nv \xa01 2 3", 1, "mesh line 2: not a number"),
+        (
+            b"v 0 0 0\nf 1 1 999999999",
+            1,
+            "mesh line 2: no such vertex",
+        ),
+        (
+            b"v 0 0 0\nf 1 1 1000000001",
+            1,
+            "mesh line 2: no such vertex",
+        ),
+        (b"v 0 0 0\nf 1 1 1a", 1, "mesh line 2: bad reference"),
+        (b"v 0 0 0\nf 2 1 1a", 1, "mesh line 2: no such vertex"),
+        (b"v 0 0 0\nf 1 2 0 x", 1, "mesh line 2: no such vertex"),
+        (b"v 0 0 0\nf 1 1 1 x", 1, "mesh line 2: bad reference"),
     ];
     all_shown(&rt, rt.alloc(), &cases)?;
     Ok(())

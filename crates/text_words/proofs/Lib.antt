@@ -3,3 +3,4 @@ pub mod Joining
 pub mod Plain
 pub mod Spaces
 pub mod FirstBytes
+pub mod Digits

@@ -3,6 +3,7 @@
 
 ghost use Rattle.std.specs.Prelude.{◌≡◌, ◌<◌, ◌∷◌, ◌^◌, [], length, MatchOption};
 ghost use Rattle.text_words.specs.Joins.{said, joins, is_line_end, joined_lines_of};
+ghost use Rattle.text_words.specs.Numbers.{AreThreeNumbers};
 
 use crate::lines::Lines;
 use crate::words::Words;
@@ -84,6 +85,17 @@ impl<'a> JoinedLines<'a> {
             self.joins = joins;
             self.number += 1;
         }
+    }
+
+    /// The numbers that the next three words write, as `Words::three_numbers` answers them, where no join stands before
+    /// the end of the third. `None` tells nothing of the words, and takes none.
+    #[inline(always)]
+    pub fn three_numbers(&mut self) -> Option<(u32, u32, u32)>
+        ensures numbers { MatchOption result (self.new.words ≡ self.old.words) (λ t.
+            AreThreeNumbers self.old.words t.0 t.1 t.2 self.new.words) }
+        ensures later { self.new.later ≡ self.old.later }
+    {
+        self.words.three_numbers()
     }
 }
 

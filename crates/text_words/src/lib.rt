@@ -5,6 +5,7 @@
 
 mod joins;
 mod lines;
+mod numbers;
 mod words;
 
 pub use joins::JoinedLines;

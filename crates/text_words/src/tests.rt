@@ -48,3 +48,50 @@ fn a_line_that_ends_with_a_backslash_goes_on_in_the_next(rt: HostRuntime) {
     }
     assert_eq!(rt; lines.next_line(), None);
 }
+
+#[test]
+fn three_numbers_are_taken_at_once_or_none(rt: HostRuntime) {
+    let taken: [(&[u8], (u32, u32, u32), usize); 5] = [
+        (b"1 22 333", (1, 22, 333), 0),
+        (b"\t999999999 000000007\x0b0 4 x", (999_999_999, 7, 0), 2),
+        (b"0000000012 1 1 ", (12, 1, 1), 0),
+        (b"1 2 3\r", (1, 2, 3), 0),
+        (b"1 2 3 4/4", (1, 2, 3), 1),
+    ];
+    for (line, want, left) in taken.iter() {
+        let mut words = Words::new(line);
+        assert_eq!(rt; words.three_numbers(), Some(*want));
+        assert_eq!(rt; words.count(), *left);
+    }
+    let left: [(&[u8], usize); 8] = [
+        (b"", 0),
+        (b"1 2", 2),
+        (b"1 2 1000000000", 3),
+        (b"1 2 3a", 3),
+        (b"1 2/2 3", 3),
+        (b"1 2 3/", 3),
+        (b"-1 2 3", 3),
+        (b"1 2 \xa03", 3),
+    ];
+    for (line, count) in left.iter() {
+        let mut words = Words::new(line);
+        assert_eq!(rt; words.three_numbers(), None);
+        assert_eq!(rt; words.count(), *count);
+    }
+}
+
+#[test]
+fn three_numbers_are_taken_of_one_part_of_a_joined_line(rt: HostRuntime) {
+    let mut lines = JoinedLines::new(b"1 2 3#4\n1 2 \\\n3\n1 2 3\\\n4");
+    assert_eq!(rt; lines.three_numbers(), None);
+    assert_eq!(rt; lines.next_line(), Some(1));
+    assert_eq!(rt; lines.three_numbers(), Some((1, 2, 3)));
+    assert_eq!(rt; lines.next_word(), None);
+    assert_eq!(rt; lines.next_line(), Some(2));
+    assert_eq!(rt; lines.three_numbers(), None);
+    assert_eq!(rt; lines.next_word(), Some(b"1".as_slice()));
+    assert_eq!(rt; lines.next_line(), Some(4));
+    assert_eq!(rt; lines.three_numbers(), Some((1, 2, 3)));
+    assert_eq!(rt; lines.next_word(), Some(b"4".as_slice()));
+    assert_eq!(rt; lines.next_word(), None);
+}

@@ -3,7 +3,9 @@
 ghost use Rattle.std.specs.Prelude.{◌≡◌, ◌<◌, ◌∷◌, [], length, MatchOption};
 ghost use Rattle.text_words.specs.Lines.{words_of, is_blank};
 ghost use Rattle.text_words.specs.Cuts.{IsUnbroken, IsCut};
+ghost use Rattle.text_words.specs.Numbers.{AreThreeNumbers};
 
+use crate::numbers::first_number;
 use std::marker::Model;
 
 /// The words of a line that are still to be read. Contracts see it as their list.
@@ -36,6 +38,19 @@ impl<'a> Words<'a> {
         let (word, rest) = first_word(self.rest)?;
         self.rest = rest;
         Some(word)
+    }
+
+    /// The numbers that the next three words write, where each is digits alone, in one pass over their bytes. `None`
+    /// tells nothing of the words, and takes none: numbers from 10^9 on are among those that are left to the caller.
+    #[inline(always)]
+    pub fn three_numbers(&mut self) -> Option<(u32, u32, u32)>
+        ensures { MatchOption result (self.new ≡ self.old) (λ t. AreThreeNumbers self.old t.0 t.1 t.2 self.new) }
+    {
+        let (a, _first, rest) = first_number(self.rest)?;
+        let (b, _second, rest) = first_number(rest)?;
+        let (c, _third, behind) = first_number(rest)?;
+        self.rest = behind;
+        Some((a, b, c))
     }
 
     /// How many words are left.
@@ -86,7 +101,7 @@ fn cut_word(line: &[u8]) -> (&[u8], &[u8])
     (line, &line[line.len()..])
 }
 
-fn is_blank(b: u8) -> bool
+pub(crate) fn is_blank(b: u8) -> bool
     ensures { result ≡ is_blank b }
 {
     b <= 32 && matches!(b, 9 | 11 | 12 | 13 | 32)

@@ -1,23 +1,32 @@
-use Rattle.std.proofs.Common.{rules, false, ◌≡◌, ◌∷◌, length, sym, ap, subst, ◌∙◌, Ok}
+use Rattle.std.proofs.Common.{rules, false, ◌≡◌, length, drop, sym, ap, subst, ◌∙◌, Ok}
 use Rattle.std.specs.Prelude.{OnOk}
 use Rattle.obj_text.specs.Rows.{triangles_of}
-use Rattle.obj_text.specs.Steps.{extended, fan_left}
-use Rattle.obj_text.proofs.Fans.{line_begun, fan_is_line}
+use Rattle.obj_text.specs.Steps.{extended, first_corners_of, fan_left}
+use Rattle.obj_text.proofs.Fans.{line_known, fan_is_line, corners_have_fault}
 use Rattle.obj_text.proofs.rows.triangles.Goals as goal
 
--- what is left of the line behind its first two corners
+pub returns-in_err-first-clause-fault : goal.returns-in_err-first-clause-fault
+returns-in_err-first-clause-fault c =
+    let fault = corners_have_fault c.args.vertices.now c.args.before c.args.faces.now.items c.args.line.now.words
+    c.first_corners.result c.first_corners.ensures.corners in
+    search (rules, fault)
+
+-- what is left of the line behind its first three corners
 begun : (c : goal.After-fan)
     → extended c.args.faces.now.items
     (triangles_of c.args.vertices.now c.args.before (length c.args.faces.now.items) c.args.line.now.words)
-    ≡ fan_left c.corner-2.new.vertices c.args.before false c.args.faces.now.items c.in_ok-first.first
-    c.in_ok-second.second (c.in-Some.c.now ∷ c.three.new.line.words)
+    ≡ fan_left c.first_corners.new.vertices c.args.before false c.args.faces.now.items c.in_ok-first.first
+    c.in_ok-first.second c.in_ok-first.third c.first_corners.new.line.words
 begun c =
-    let same : c.args.vertices.now ≡ c.corner-2.new.vertices = search rules in
-    line_begun c.args.vertices.now c.args.before c.in_ok-first.first c.in_ok-second.second c.args.faces.now.items
-    c.in-Some.a.now c.in-Some.b.now c.in-Some.c.now c.three.new.line.words c.args.line.now.words
-    (search rules) (search rules) (search rules)
-    ∙ ap (λ v. fan_left v c.args.before false c.args.faces.now.items c.in_ok-first.first c.in_ok-second.second
-    (c.in-Some.c.now ∷ c.three.new.line.words)) same
+    let same : c.args.vertices.now ≡ c.first_corners.new.vertices = search rules in
+    let words : drop 3 c.args.line.now.words ≡ c.first_corners.new.line.words = search rules in
+    let corners : first_corners_of c.args.vertices.now c.args.before c.args.line.now.words
+    ≡ Ok (c.in_ok-first.first, c.in_ok-first.second, c.in_ok-first.third) = search rules in
+    line_known c.args.vertices.now c.args.before c.args.faces.now.items c.args.line.now.words _ corners
+    ∙ ap (λ v. fan_left v c.args.before false c.args.faces.now.items c.in_ok-first.first c.in_ok-first.second
+    c.in_ok-first.third (drop 3 c.args.line.now.words)) same
+    ∙ ap (fan_left c.first_corners.new.vertices c.args.before false c.args.faces.now.items c.in_ok-first.first
+    c.in_ok-first.second c.in_ok-first.third) words
 
 pub returns-clause-faces : goal.returns-clause-faces
 returns-clause-faces c =
