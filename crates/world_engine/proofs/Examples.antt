@@ -1,7 +1,6 @@
 -- Worked values, tried on the definitions alone: of codes, of the tree over eight keys, and of whole outputs.
-use Rattle.std.proofs.Common.{◌≡◌, ℕ, ◌+◌, ◌*◌, ◌^◌, pos, refl, List, [], ◌∷◌, ◌++◌, Option, Some, None}
+use Rattle.std.proofs.Common.{◌≡◌, ℕ, ◌+◌, ◌*◌, ◌^◌, pos, refl, List, [], ◌∷◌, ◌++◌, Some, None}
 use Rattle.std.specs.Prelude.{codes, decimal}
-use Rattle.fixed_box.specs.declared.shapes.Point.{Point}
 use Rattle.fixed_box.specs.declared.shapes.Tri.{Tri}
 use Rattle.fixed_box.specs.Extent.{point_box, union_of, corner_box, tri_box, crosses, boxes_meet}
 use Rattle.morton_key.specs.declared.keys.Key.{Key}

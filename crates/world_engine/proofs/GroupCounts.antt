@@ -1,8 +1,7 @@
 -- The counts of groups, after one triangle more.
-use Rattle.std.proofs.Common.{◌≡◌, ◌<◌, ◌≤◌, ◌+◌, ℕ, zero, suc, List, [], ◌∷◌, length, take, get_or, set, replicate, refl, sym, ap, ap₂, ◌∙◌, subst, arith, ◌==◌}
+use Rattle.std.proofs.Common.{◌≡◌, ◌<◌, ◌≤◌, ◌+◌, ℕ, zero, suc, List, [], ◌∷◌, length, take, get_or, set, replicate, refl, sym, ap, ap₂, ◌∙◌, arith, ◌==◌}
 use Rattle.std.proofs.lemmas.Bool.{eq-eqb, ne_eqb}
 use Rattle.std.proofs.lemmas.List.Sums.{count_by-le-length, count_by_more_yes, count_by_more_no}
-use Rattle.query_script.specs.declared.groups.GroupCount.{GroupCount}
 use Rattle.world_engine.specs.Worlds.{count_in, groups_from}
 use Rattle.world_engine.specs.Grouping.{counts_from, side_by_side}
 

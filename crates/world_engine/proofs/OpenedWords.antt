@@ -1,5 +1,5 @@
 -- The word that names the mesh, as text and as a word.
-use Rattle.std.proofs.Common.{◌≡◌, ◌<◌, ℕ, List, [], length, ap, sym, ◌∙◌, get_or, Option, None, Some, string_bytes, String, Global}
+use Rattle.std.proofs.Common.{◌≡◌, ◌<◌, ℕ, List, [], length, ap, sym, ◌∙◌, get_or, None, Some, string_bytes, String, Global}
 use Rattle.std.proofs.lemmas.List.{get_or-map}
 use Rattle.command_line.specs.declared.plan.Plan.{Plan}
 use Rattle.command_line.specs.Items.{texts_of}

@@ -1,4 +1,4 @@
-use Rattle.std.proofs.Common.{◌≡◌, ◌∙◌, All, ap, subst, sym, map, take_all}
+use Rattle.std.proofs.Common.{◌≡◌, ◌∙◌, All, ap, subst, sym, take_all}
 use Rattle.fixed_box.specs.World.{BoxInWorld}
 use Rattle.world_engine.specs.Worlds.{tris_at, boxes_at}
 use Rattle.world_engine.proofs.WorldBoxes.{tris_in_world, boxes_in_world}

@@ -3,7 +3,6 @@ use Rattle.std.proofs.lemmas.List.{length-take}
 use Rattle.std.proofs.lemmas.List.Elements.{All-get_or}
 use Rattle.obj_text.specs.Meshes.{IsPlaceIn}
 use Rattle.world_engine.proofs.GroupCounts.{length-counts, counts_of_none, count_few, one_more}
-use Rattle.world_engine.specs.Grouping.{counts_from}
 use Rattle.world_engine.proofs.grouping.count_faces.Goals as goal
 
 pub loop-place-init : goal.loop-place-init

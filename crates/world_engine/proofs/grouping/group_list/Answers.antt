@@ -1,7 +1,7 @@
-use Rattle.std.proofs.Common.{◌≡◌, ◌∙◌, length, ap, ap₂, sym}
+use Rattle.std.proofs.Common.{◌∙◌, length, ap, ap₂}
 use Rattle.world_engine.proofs.GroupCounts.{length-counts, groups_counted}
 use Rattle.world_engine.specs.Worlds.{groups_from}
-use Rattle.world_engine.specs.Grouping.{counts_from, side_by_side}
+use Rattle.world_engine.specs.Grouping.{side_by_side}
 use Rattle.world_engine.proofs.grouping.group_list.Goals as goal
 
 pub with_counts-requires : goal.with_counts-requires
