@@ -3,7 +3,8 @@ use Rattle.std.proofs.Common.{◌≡◌, ℕ, Bool, true, false, List, [], ◌�
 use Rattle.std.specs.List.{list_all}
 use Rattle.std.proofs.lemmas.Bool.Decides.{nat_tests}
 use Rattle.text_words.specs.Lines.{is_word}
-use Rattle.text_words.specs.Numbers.{is_digit, value_after, IsNumber, AreThreeNumbers}
+use Rattle.text_words.specs.Numbers.{is_digit, value_after}
+use Rattle.text_words.specs.ThreeNumbers.{IsNumber, AreThreeNumbers}
 use Rattle.decimals.specs.Decimals.{digits_of, past_digits, past_sign}
 use Rattle.obj_text.specs.Rows.{position, position_of, at_most_two_parts}
 use Rattle.obj_text.specs.Steps.{all_three, first_corners_of}

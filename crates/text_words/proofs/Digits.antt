@@ -5,7 +5,8 @@ use Rattle.std.proofs.lemmas.Bool.Decides.{nat_tests}
 use Rattle.text_words.specs.Lines.{is_blank}
 use Rattle.text_words.specs.Joins.{JoinedLine}
 use Rattle.text_words.specs.Parts.{left_of}
-use Rattle.text_words.specs.Numbers.{is_digit, value_after, AreThreeNumbers}
+use Rattle.text_words.specs.Numbers.{is_digit, value_after}
+use Rattle.text_words.specs.ThreeNumbers.{AreThreeNumbers}
 use Rattle.text_words.proofs.Joining.{word_left}
 
 digit_by : (b : ℕ) (k : Bool) → is_digit b ≡ true → is_blank b ≡ k → k ≡ false

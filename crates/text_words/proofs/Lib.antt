@@ -4,3 +4,4 @@ pub mod Plain
 pub mod Spaces
 pub mod FirstBytes
 pub mod Digits
+pub mod Fronts

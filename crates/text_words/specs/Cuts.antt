@@ -1,5 +1,5 @@
 -- How a word is cut off a line. No public clause cites this module.
-use Rattle.std.specs.Prelude.{◌≡◌, ◌<◌, ◌++◌, ℕ, true, false, List, [], ◌∷◌, not, IsTrue, length, ⊤}
+use Rattle.std.specs.Prelude.{◌≡◌, ◌<◌, ◌++◌, ℕ, true, false, List, [], ◌∷◌, not, IsTrue, length, ⊤, if◌then◌else◌}
 use Rattle.std.specs.List.{list_all}
 use Rattle.text_words.specs.Lines.{is_blank}
 
@@ -7,6 +7,16 @@ use Rattle.text_words.specs.Lines.{is_blank}
 abbrev pub IsUnbroken : List ℕ → Type 0
 IsUnbroken [] = ⊥
 IsUnbroken (b ∷ bs) = is_blank b ≡ false
+
+-- what stands before the first blank
+abbrev pub front_of : List ℕ → List ℕ
+front_of [] = []
+front_of (b ∷ bs) = if is_blank b then [] else b ∷ front_of bs
+
+-- it is empty or begins with a word
+abbrev pub IsPastBlanks : List ℕ → Type 0
+IsPastBlanks [] = ⊤
+IsPastBlanks (b ∷ bs) = is_blank b ≡ false
 
 -- it is empty or begins with a blank
 abbrev pub IsBroken : List ℕ → Type 0

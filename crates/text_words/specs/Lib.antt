@@ -1,5 +1,6 @@
 pub mod Lines
 pub mod Joins
 pub mod Numbers
+pub mod ThreeNumbers
 pub mod Cuts
 pub mod Parts

@@ -1,11 +1,12 @@
 //! The joined lines of a text, and their words. A word never goes across a join, so each is lent from the text, and no
 //! joined line is ever put together.
 
-ghost use Rattle.std.specs.Prelude.{◌≡◌, ◌<◌, ◌∷◌, ◌^◌, [], length, MatchOption};
+ghost use Rattle.std.specs.Prelude.{◌≡◌, ◌<◌, ◌∷◌, ◌^◌, [], length, MatchOption, IfNone};
 ghost use Rattle.text_words.specs.Joins.{said, joins, is_line_end, joined_lines_of};
-ghost use Rattle.text_words.specs.Numbers.{AreThreeNumbers};
+ghost use Rattle.text_words.specs.ThreeNumbers.{AreThreeNumbers, BeginSmall};
 
 use crate::lines::Lines;
+use crate::numbers::number_of;
 use crate::words::Words;
 use std::marker::Model;
 
@@ -87,15 +88,51 @@ impl<'a> JoinedLines<'a> {
         }
     }
 
-    /// The numbers that the next three words write, as `Words::three_numbers` answers them, where no join stands before
-    /// the end of the third. `None` tells nothing of the words, and takes none.
+    /// The numbers that the next three words write, where each is digits alone. `None` takes no word, and comes only where
+    /// the next three are not all there, digits alone and below 10^9.
     #[inline(always)]
     pub fn three_numbers(&mut self) -> Option<(u32, u32, u32)>
         ensures numbers { MatchOption result (self.new.words ≡ self.old.words) (λ t.
             AreThreeNumbers self.old.words t.0 t.1 t.2 self.new.words) }
+        ensures none { IfNone result (BeginSmall 3 self.old.words → ⊥) }
         ensures later { self.new.later ≡ self.old.later }
     {
-        self.words.three_numbers()
+        if let Some(numbers) = self.words.three_numbers() {
+            return Some(numbers);
+        }
+        if !self.joins {
+            return None;
+        }
+        self.three_numbers_joined()
+    }
+
+    /// The same, word by word, where a join may stand among the three. Such lines are few, so it stands apart from its
+    /// callers' code.
+    #[inline(never)]
+    fn three_numbers_joined(&mut self) -> Option<(u32, u32, u32)>
+        ensures numbers { MatchOption result (self.new.words ≡ self.old.words) (λ t.
+            AreThreeNumbers self.old.words t.0 t.1 t.2 self.new.words) }
+        ensures none { IfNone result (BeginSmall 3 self.old.words → ⊥) }
+        ensures later { self.new.later ≡ self.old.later }
+    {
+        let mut ahead = self.ahead();
+        let a = number_of(ahead.next_word()?)?;
+        let b = number_of(ahead.next_word()?)?;
+        let c = number_of(ahead.next_word()?)?;
+        *self = ahead;
+        Some((a, b, c))
+    }
+
+    /// The same lines, to read ahead.
+    fn ahead(&self) -> JoinedLines<'a>
+        ensures { result ≡ self.now }
+    {
+        JoinedLines {
+            words: self.words.ahead(),
+            joins: self.joins,
+            lines: self.lines.ahead(),
+            number: self.number,
+        }
     }
 }
 

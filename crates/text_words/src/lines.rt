@@ -32,6 +32,13 @@ impl<'a> Lines<'a> {
         Lines { rest: text }
     }
 
+    /// The same lines, to read ahead.
+    pub(crate) fn ahead(&self) -> Lines<'a>
+        ensures { result ≡ self.now }
+    {
+        Lines { rest: self.rest }
+    }
+
     /// The next line, without its line feed.
     pub fn next(&mut self) -> Option<&'a [u8]>
         ensures { MatchOption result ((self.old ≡ []) × (self.new ≡ [])) (λ line. self.old ≡ line.now ∷ self.new) }

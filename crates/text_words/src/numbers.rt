@@ -1,20 +1,23 @@
 //! A number in digits alone at the front of a line, cut off and valued in one pass over its bytes.
 
-ghost use Rattle.std.specs.Prelude.{◌≡◌, ◌∷◌, IfSome};
+ghost use Rattle.std.specs.Prelude.{◌≡◌, ◌∷◌, [], MatchOption, IfSome, IfNone};
 ghost use Rattle.text_words.specs.Lines.{words_of};
-ghost use Rattle.text_words.specs.Cuts.{IsCut};
-ghost use Rattle.text_words.specs.Numbers.{is_digit, IsNumber};
+ghost use Rattle.text_words.specs.Cuts.{IsCut, IsPastBlanks, front_of};
+ghost use Rattle.text_words.specs.Numbers.{is_digit};
+ghost use Rattle.text_words.specs.ThreeNumbers.{IsNumber, IsSmallNumber, BeginSmall};
 
 use crate::words::is_blank;
 
 /// A number has room for one more digit below this one.
 const ROOM: u32 = 100_000_000;
 
-/// The number in the first word of a line, that word, and what follows it. `None` says nothing of the line.
+/// The number in the first word of a line, that word, and what follows it. `None` where there is no word, or it is not
+/// digits alone, or the number is not below 10^9.
 #[inline(always)]
 pub(crate) fn first_number(line: &[u8]) -> Option<(u32, &[u8], &[u8])>
     ensures number { IfSome result (λ parts. IsNumber parts.1.now parts.0) }
     ensures words { IfSome result (λ parts. words_of line.now ≡ parts.1.now ∷ words_of parts.2.now) }
+    ensures none { IfNone result (BeginSmall 1 (words_of line.now) → ⊥) }
 {
     cut_number(past_blanks(line))
 }
@@ -22,7 +25,8 @@ pub(crate) fn first_number(line: &[u8]) -> Option<(u32, &[u8], &[u8])>
 /// The line without the blanks at its front.
 #[inline(always)]
 fn past_blanks(line: &[u8]) -> &[u8]
-    ensures { words_of result.now ≡ words_of line.now }
+    ensures words { words_of result.now ≡ words_of line.now }
+    ensures past { IsPastBlanks result.now }
 {
     let mut rest = line;
     while let [b, more @ ..] = rest {
@@ -39,6 +43,7 @@ fn past_blanks(line: &[u8]) -> &[u8]
 fn cut_number(line: &[u8]) -> Option<(u32, &[u8], &[u8])>
     ensures number { IfSome result (λ parts. IsNumber parts.1.now parts.0) }
     ensures cut { IfSome result (λ parts. IsCut line.now parts.1.now parts.2.now) }
+    ensures none { IfNone result (IsSmallNumber (front_of line.now) → ⊥) }
 {
     let mut value = 0u32;
     for (at, b) in line.iter().enumerate() {
@@ -57,6 +62,19 @@ fn cut_number(line: &[u8]) -> Option<(u32, &[u8], &[u8])>
         return None;
     }
     Some((value, line, &line[line.len()..]))
+}
+
+/// The number that a word writes, on the same terms.
+pub(crate) fn number_of(word: &[u8]) -> Option<u32>
+    ensures { MatchOption result (IsSmallNumber word.now → ⊥) (λ number. IsNumber word.now number) }
+{
+    let Some((number, _word, rest)) = cut_number(word) else {
+        return None;
+    };
+    if !rest.is_empty() {
+        return None;
+    }
+    Some(number)
 }
 
 fn is_digit(b: u8) -> bool

@@ -81,17 +81,28 @@ fn three_numbers_are_taken_at_once_or_none(rt: HostRuntime) {
 }
 
 #[test]
-fn three_numbers_are_taken_of_one_part_of_a_joined_line(rt: HostRuntime) {
-    let mut lines = JoinedLines::new(b"1 2 3#4\n1 2 \\\n3\n1 2 3\\\n4");
+fn three_numbers_are_taken_across_joins(rt: HostRuntime) {
+    let mut lines = JoinedLines::new(
+        b"1 2 3#4\n1 \\\n2 \\\r\n3 4\n1 2 3\\\n4\n1 2 \\\n3/ 4\n1 2\\",
+    );
     assert_eq!(rt; lines.three_numbers(), None);
     assert_eq!(rt; lines.next_line(), Some(1));
     assert_eq!(rt; lines.three_numbers(), Some((1, 2, 3)));
     assert_eq!(rt; lines.next_word(), None);
     assert_eq!(rt; lines.next_line(), Some(2));
-    assert_eq!(rt; lines.three_numbers(), None);
-    assert_eq!(rt; lines.next_word(), Some(b"1".as_slice()));
-    assert_eq!(rt; lines.next_line(), Some(4));
     assert_eq!(rt; lines.three_numbers(), Some((1, 2, 3)));
     assert_eq!(rt; lines.next_word(), Some(b"4".as_slice()));
     assert_eq!(rt; lines.next_word(), None);
+    assert_eq!(rt; lines.next_line(), Some(5));
+    assert_eq!(rt; lines.three_numbers(), Some((1, 2, 3)));
+    assert_eq!(rt; lines.next_word(), Some(b"4".as_slice()));
+    assert_eq!(rt; lines.next_line(), Some(7));
+    assert_eq!(rt; lines.three_numbers(), None);
+    assert_eq!(rt; lines.next_word(), Some(b"1".as_slice()));
+    assert_eq!(rt; lines.next_line(), Some(9));
+    assert_eq!(rt; lines.three_numbers(), None);
+    assert_eq!(rt; lines.next_word(), Some(b"1".as_slice()));
+    assert_eq!(rt; lines.next_word(), Some(b"2".as_slice()));
+    assert_eq!(rt; lines.next_word(), None);
+    assert_eq!(rt; lines.next_line(), None);
 }

@@ -1,9 +1,9 @@
 //! The words of a line, one after another.
 
-ghost use Rattle.std.specs.Prelude.{◌≡◌, ◌<◌, ◌∷◌, [], length, MatchOption};
+ghost use Rattle.std.specs.Prelude.{◌≡◌, ◌<◌, ◌∷◌, [], length, MatchOption, IfNone};
 ghost use Rattle.text_words.specs.Lines.{words_of, is_blank};
 ghost use Rattle.text_words.specs.Cuts.{IsUnbroken, IsCut};
-ghost use Rattle.text_words.specs.Numbers.{AreThreeNumbers};
+ghost use Rattle.text_words.specs.ThreeNumbers.{AreThreeNumbers, BeginSmall};
 
 use crate::numbers::first_number;
 use std::marker::Model;
@@ -41,16 +41,25 @@ impl<'a> Words<'a> {
     }
 
     /// The numbers that the next three words write, where each is digits alone, in one pass over their bytes. `None`
-    /// tells nothing of the words, and takes none: numbers from 10^9 on are among those that are left to the caller.
+    /// takes no word, and comes only where the next three are not all there, digits alone and below 10^9.
     #[inline(always)]
     pub fn three_numbers(&mut self) -> Option<(u32, u32, u32)>
-        ensures { MatchOption result (self.new ≡ self.old) (λ t. AreThreeNumbers self.old t.0 t.1 t.2 self.new) }
+        ensures numbers { MatchOption result (self.new ≡ self.old) (λ t.
+            AreThreeNumbers self.old t.0 t.1 t.2 self.new) }
+        ensures none { IfNone result (BeginSmall 3 self.old → ⊥) }
     {
         let (a, _first, rest) = first_number(self.rest)?;
         let (b, _second, rest) = first_number(rest)?;
         let (c, _third, behind) = first_number(rest)?;
         self.rest = behind;
         Some((a, b, c))
+    }
+
+    /// The same words, to read ahead.
+    pub(crate) fn ahead(&self) -> Words<'a>
+        ensures { result ≡ self.now }
+    {
+        Words { rest: self.rest }
     }
 
     /// How many words are left.
