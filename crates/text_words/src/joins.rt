@@ -88,8 +88,8 @@ impl<'a> JoinedLines<'a> {
         }
     }
 
-    /// The numbers that the next three words write, where each is digits alone. `None` takes no word, and comes only where
-    /// the next three are not all there, digits alone and below 10^9.
+    /// The numbers that the next three words write, where each is digits alone. `None` takes no word, and comes only
+    /// where the next three are not all there, digits alone and below 10^9.
     #[inline(always)]
     pub fn three_numbers(&mut self) -> Option<(u32, u32, u32)>
         ensures numbers { MatchOption result (self.new.words ≡ self.old.words) (λ t.
