@@ -48,7 +48,9 @@ pub fn boxes_of(alloc: Global, points: &[Point], faces: &[Face]) -> Result<Vec<B
 {
     let mut boxes = Vec::with_capacity(alloc, faces.len()).map_err(|_| Memory)?;
     for face in faces {
-        boxes.push(box_of(&triangle(points, face))).map_err(|_| Memory)?;
+        boxes
+            .push(box_of(&triangle(points, face)))
+            .map_err(|_| Memory)?;
     }
     Ok(boxes)
 }
