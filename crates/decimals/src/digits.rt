@@ -5,6 +5,7 @@ ghost use Rattle.text_words.specs.Numbers.{is_digit, value_after};
 ghost use Rattle.decimals.specs.Decimals.{digits_of, past_digits};
 
 use crate::limits::{FEW, PAST_MOST_DIGITS};
+use text_words::is_digit;
 
 /// The number that the digits at the front write behind those of `before`, cut off; how many they are; what follows.
 #[tactic(auto, using(crate::proofs::Runs::digits_within, crate::proofs::Runs::digits_count))]
@@ -55,10 +56,4 @@ fn many_digits(before: u128, text: &[u8]) -> (u128, &[u8])
         value = (value * 10 + u128::from(*b - b'0')).min(PAST_MOST_DIGITS);
     }
     (value, &text[text.len()..])
-}
-
-pub fn is_digit(b: u8) -> bool
-    ensures { result ≡ is_digit b }
-{
-    b'0' <= b && b <= b'9'
 }

@@ -7,9 +7,9 @@ ghost use Rattle.decimals.specs.Decimals.{digits_of, past_digits, fraction_of, p
 ghost use Rattle.decimals.specs.Rounding.{IsReadAs, HasRoom};
 
 use crate::decimal::Decimal;
-use crate::digits::is_digit;
 use crate::limits::{FEW, FEW_DIGITS};
 use crate::parts::{has_digit, sign};
+use text_words::is_digit;
 
 /// The parts of a short decimal. `None` says nothing of the word.
 pub fn short_parts(word: &[u8]) -> Option<Decimal>

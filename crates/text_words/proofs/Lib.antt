@@ -5,3 +5,6 @@ pub mod Spaces
 pub mod FirstBytes
 pub mod Digits
 pub mod Fronts
+pub mod Endings
+pub mod Halving
+pub mod CutPlaces

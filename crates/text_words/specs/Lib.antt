@@ -4,3 +4,4 @@ pub mod Numbers
 pub mod ThreeNumbers
 pub mod Cuts
 pub mod Parts
+pub mod Halves

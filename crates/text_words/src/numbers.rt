@@ -77,7 +77,9 @@ pub(crate) fn number_of(word: &[u8]) -> Option<u32>
     Some(number)
 }
 
-fn is_digit(b: u8) -> bool
+/// Whether the byte is one of the digits `0` to `9`.
+#[inline(always)]
+pub fn is_digit(b: u8) -> bool
     ensures { result ≡ is_digit b }
 {
     b'0' <= b && b <= b'9'

@@ -106,3 +106,26 @@ fn three_numbers_are_taken_across_joins(rt: HostRuntime) {
     assert_eq!(rt; lines.next_word(), None);
     assert_eq!(rt; lines.next_line(), None);
 }
+
+#[test]
+fn a_text_is_cut_behind_a_line_feed_that_joins_no_lines(rt: HostRuntime) {
+    let cut: [(&[u8], &[u8], &[u8]); 10] = [
+        (b"a\nb\nc\nd\n", b"a\nb\nc\n", b"d\n"),
+        (b"ab\ncd", b"ab\n", b"cd"),
+        (b"a\r\nb\r\nc\r\n", b"a\r\nb\r\n", b"c\r\n"),
+        (b"v 1\nv \\\n2\nf", b"v 1\nv \\\n2\n", b"f"),
+        (b"v 1\r\nv \\\r\n2\r\nf", b"v 1\r\nv \\\r\n2\r\n", b"f"),
+        (b"v\n#\\\na\nb", b"v\n#\\\na\n", b"b"),
+        (b"a\n\\b\nc", b"a\n\\b\n", b"c"),
+        (b"a\\\r\r\nb", b"a\\\r\r\n", b"b"),
+        (b"one two\n", b"one two\n", b""),
+        (b"\n", b"\n", b""),
+    ];
+    for (text, left, right) in cut.iter() {
+        assert_eq!(rt; halves(text), Some((*left, *right)));
+    }
+    let whole: [&[u8]; 5] = [b"", b"one two", b"a\nb c d", b"a\\\n", b"a\\\r\n"];
+    for text in whole.iter() {
+        assert_eq!(rt; halves(text), None);
+    }
+}

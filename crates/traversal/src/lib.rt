@@ -4,10 +4,10 @@
 #![tactic(auto)]
 
 mod approach;
+mod beginning;
 mod found;
 mod nearest_hit;
 mod overlapping;
-mod steps;
 mod triangles;
 
 pub use found::{Found, Numbers};

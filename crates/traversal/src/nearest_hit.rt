@@ -17,7 +17,7 @@ ghost use Rattle.traversal.specs.NearestOf.{parts_of, nearest_of};
 ghost use Rattle.traversal.specs.Nearing.{IsNoFarther, StandsIn, Nears, Screens};
 
 use crate::approach::{Approach, approach_to, in_order, is_too_far};
-use crate::steps::root;
+use crate::beginning::root;
 use crate::triangles::{Listed, Triangles};
 use fixed_box::{Point, Tri};
 use radix_tree::{Child, Tree, left, right};

@@ -2,14 +2,15 @@
 //! It lists triangles in the order of the tree, so the list is sorted once, at the end.
 
 ghost use Rattle.std.specs.Prelude.{◌≡◌, ℕ, ◌+◌, ◌-◌, ◌*◌, ◌^◌, ◌<◌, ◌++◌, length, IfOk, OnOk};
+ghost use Rattle.fixed_box.specs.Extent.{boxes_meet};
 ghost use Rattle.radix_tree.specs.Ranges.{HasRange};
-ghost use Rattle.radix_tree.specs.Table.{IsTable};
+ghost use Rattle.radix_tree.specs.Table.{IsTable, node_at};
 ghost use Rattle.radix_tree.specs.Fit.{IsFitted};
 ghost use Rattle.radix_tree.specs.Filling.{IsChild};
 ghost use Rattle.traversal.specs.Overlaps.{overlaps_of, work_of};
 ghost use Rattle.traversal.specs.Walks.{met_in, met_below};
 
-use crate::steps::{node_meets, root};
+use crate::beginning::root;
 use crate::{Found, Numbers};
 use fixed_box::{Box3, meets};
 use outside::Memory;
@@ -35,6 +36,14 @@ fn test_leaf(
         numbers.push(tri)?;
     }
     Ok(())
+}
+
+/// Whether the box of the node of that number meets another.
+fn node_meets(t: &Tree, q: &Box3, number: u32) -> bool
+    requires { number < length t.now.nodes }
+    ensures { result ≡ boxes_meet (node_at t.now.nodes number).fit q.now }
+{
+    meets(&t.nodes()[number as usize].fit, q)
 }
 
 /// Adds the triangles below a child whose boxes meet the queried one, and answers how many boxes it tested.

@@ -2,7 +2,7 @@ use Rattle.std.proofs.Common.{◌<◌, length, ap, subst, sym, ◌∙◌}
 use Rattle.fixed_box.specs.Extent.{boxes_meet}
 use Rattle.radix_tree.specs.Table.{node_at}
 use Rattle.radix_tree.proofs.RowLaws.{node_is}
-use Rattle.traversal.proofs.steps.node_meets.Goals as goal
+use Rattle.traversal.proofs.overlapping.node_meets.Goals as goal
 
 pub returns : goal.returns
 returns c =

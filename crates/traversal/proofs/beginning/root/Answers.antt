@@ -1,6 +1,6 @@
 use Rattle.std.proofs.Common.{◌-◌, length, refl, ap, arith}
 use Rattle.radix_tree.proofs.NodeLaws.{root_node}
-use Rattle.traversal.proofs.steps.root.Goals as goal
+use Rattle.traversal.proofs.beginning.root.Goals as goal
 
 pub returns-else-count-eq1-clause-range : goal.returns-else-count-eq1-clause-range
 returns-else-count-eq1-clause-range c =
