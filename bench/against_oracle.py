@@ -1,13 +1,14 @@
 #!/usr/bin/env python3
 """Compares the program with oracle.py, byte for byte: output and exit status.
 
-    python3 bench/against_oracle.py [--program PATH] [--files FOLDER] [--random COUNT] [--seed N] [--all]
+    python3 bench/against_oracle.py [--program PATH] [--files FOLDER] [--random COUNT] [--long COUNT] [--seed N] [--all]
 
 1. Worked rows, whose replies were found by hand: the oracle is compared with them first, then the program; and lists of
    words of the command line.
 2. Real files of other people's tools, in ../shared/objs: at 64 steps to a unit, at the largest unit at which the file fits,
    and at the smallest; skipped with a message where the folder is missing.
-3. Random small meshes and scripts from a fixed seed, faulty ones among them.
+3. Random small meshes and scripts from a fixed seed, faulty ones among them; some of the meshes also among so many rows that
+   are passed over that the program reads the text in parts.
 
 The program is asked first which of the script words and options it knows. A word that it does not know is to be answered
 `unknown word`, and is no word of the oracle either; without `--unit` all runs are at 64. Both are told, and `--all` makes
@@ -422,6 +423,30 @@ def compare_random(program, chance, count):
         program.compare(f"random mesh {number}", mesh, damaged(chance, random_script(chance, mesh, unit)), unit)
 
 
+LONG = 1_200_000    # bytes; from 1,048,576 on a text is read in parts
+
+# Rows that give nothing, or a name; where one goes on in the next, that is no row of its own.
+PASSED_OVER = [b"", b"s off\r", b"# v 1 2 3 \\", b"# \\\r", b"call x \\\n v 0 0 0", b"vn 0 0 \\\r\nf 1 1 x", b"usemtl \\\\", b"vt 0 \\ ",
+               b"g a \\\nf 1 2 3", b"o\r", b"x \\\n\\\n\\\nv", b"vn 0.123456 0.654321 0.500000", b"# " + b"long " * 60]
+
+
+def lengthened(chance, text):
+    """The rows of a text among many that are passed over."""
+    rows, size = text.split(b"\n"), len(text)
+    while size < LONG:
+        more = chance.choices(PASSED_OVER, k=chance.choice([1, 10, 1_000, 10_000]))
+        rows.insert(chance.randint(0, len(rows)), b"\n".join(more))
+        size += len(rows) + sum(map(len, more))
+    return b"\n".join(rows)
+
+
+def compare_long(program, chance, count):
+    for number in range(count):
+        unit = chance.choice([1, 64, 1000]) if program.has_unit else oracle.UNIT
+        mesh = lengthened(chance, random_mesh(chance, unit))
+        program.compare(f"long random mesh {number}", mesh, random_script(chance, mesh, unit), unit)
+
+
 # ------------------------------------------------------------------------------------------------ main
 
 def main():
@@ -429,6 +454,7 @@ def main():
     parser.add_argument("--program", default=os.path.join(TOP, "crates", "world_main", "out", "world_main"))
     parser.add_argument("--files", default=OBJS, metavar="FOLDER", help="of the real files, default ../shared/objs")
     parser.add_argument("--random", type=int, default=1000, metavar="COUNT", help="how many random meshes")
+    parser.add_argument("--long", type=int, default=12, metavar="COUNT", help="how many long ones")
     parser.add_argument("--seed", type=int, default=1)
     parser.add_argument("--all", action="store_true", help="fail where the program lacks a word or --unit")
     chosen = parser.parse_args()
@@ -450,6 +476,7 @@ def main():
             print(f"words of the command line: {len(ACCEPTED)} lists accepted, {len(REFUSED)} refused")
         compare_real_files(program, random.Random(chosen.seed), chosen.files)
         compare_random(program, random.Random(chosen.seed), chosen.random)
+        compare_long(program, random.Random(chosen.seed), chosen.long)
         print(f"{program.compared} runs, {program.lines} script lines, {program.bad} differences")
         sys.exit(1 if program.bad or chosen.all and lacks else 0)
 

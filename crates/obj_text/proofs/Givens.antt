@@ -20,11 +20,12 @@ use Rattle.obj_text.specs.declared.fault.Why.{Why}
 use Rattle.obj_text.specs.declared.fault.Why.TheVariants.{Outside, NoSuchVertex, BadReference, TooManyVertices, TooManyTriangles}
 use Rattle.obj_text.specs.declared.limits.TheConstants.{MOST_POINTS, MOST_FACES}
 
--- what a line gives is lawful in a text with so many vertices, behind so many vertices and triangles
+-- what a line gives is lawful in a text with so many vertices, behind so many vertices and triangles; a line that gives
+-- no vertex may stand behind more than there is room for
 pub record IsGivenOf (vertices before triangles : ℕ) (given : Given) : Type 0 where
   pub points : All InWorld (points_of given)
   pub faces : All (IsFaceOf vertices) (faces_of given)
-  pub few_points : before + length (points_of given) ≤ MOST_POINTS
+  pub few_points : before ≤ MOST_POINTS → before + length (points_of given) ≤ MOST_POINTS
   pub few_faces : triangles + length (faces_of given) ≤ MOST_FACES
 
 -- the value behind a step that gave one
@@ -115,6 +116,9 @@ fan_is vertices (first ∷ second ∷ corners) all =
     fan_from_is vertices first second corners (All-head (λ k. k < vertices) first (second ∷ corners) all)
     (All-head (λ k. k < vertices) second corners rest) (All-tail (λ k. k < vertices) second corners rest)
 
+vertex_fits : (before : ℕ) → nat_lt before MOST_POINTS ≡ true → before + 1 ≤ MOST_POINTS
+vertex_fits before e = grind (arith, nat_tests, e)
+
 -- a line that begins with `v` and has no fault gives one point
 vertex_is : (unit vertices before triangles : ℕ) (words : List (List ℕ)) (given : Given) → triangles ≤ MOST_FACES
     → vertex_of unit before words ≡ Ok given
@@ -130,19 +134,22 @@ vertex_is unit vertices before triangles (x ∷ y ∷ z ∷ words) given few e =
       record {
         points = All-cons InWorld s.0 [] (point_is unit x y z s.0 s.1) (All-nil InWorld);
         faces = All-nil (IsFaceOf vertices);
-        few_points = grind (arith, nat_tests, t.0);
+        few_points = λ room. vertex_fits before t.0;
         few_faces = omega (arith, few);
       },
     )
 
+no_more : (before : ℕ) → before ≤ MOST_POINTS → before + 0 ≤ MOST_POINTS
+no_more before room = omega (arith, room)
+
 -- a line that begins with `f` and has no fault gives triangles of the text
 triangles_are : (vertices before triangles : ℕ) (words : List (List ℕ)) (given : Given) → before ≤ vertices
-    → before ≤ MOST_POINTS → triangles_of vertices before triangles words ≡ Ok given
+    → triangles_of vertices before triangles words ≡ Ok given
     → (length (points_of given) ≡ 0) × IsGivenOf vertices before triangles given
-triangles_are vertices before triangles [] given few room e = absurd (cc)
-triangles_are vertices before triangles (x ∷ []) given few room e = absurd (cc)
-triangles_are vertices before triangles (x ∷ y ∷ []) given few room e = absurd (cc)
-triangles_are vertices before triangles (x ∷ y ∷ z ∷ words) given few room e =
+triangles_are vertices before triangles [] given few e = absurd (cc)
+triangles_are vertices before triangles (x ∷ []) given few e = absurd (cc)
+triangles_are vertices before triangles (x ∷ y ∷ []) given few e = absurd (cc)
+triangles_are vertices before triangles (x ∷ y ∷ z ∷ words) given few e =
     let s = onward_ok (positions_of vertices before (x ∷ y ∷ z ∷ words)) _ given e in
     let t =
     cond_ok (nat_le (triangles + length (fan s.0)) MOST_FACES) (Triangles (fan s.0)) TooManyTriangles given s.2 in
@@ -151,52 +158,52 @@ triangles_are vertices before triangles (x ∷ y ∷ z ∷ words) given few room
       record {
         points = All-nil InWorld;
         faces = fan_is vertices s.0 (positions_are vertices before (x ∷ y ∷ z ∷ words) s.0 few s.1);
-        few_points = omega (arith, room);
+        few_points = λ room. no_more before room;
         few_faces = grind (arith, nat_tests, t.0);
       },
     )
 
 -- a line that gives neither points nor triangles
-neither : (vertices before triangles : ℕ) (given : Given) → before ≤ MOST_POINTS → triangles ≤ MOST_FACES
+neither : (vertices before triangles : ℕ) (given : Given) → triangles ≤ MOST_FACES
     → points_of given ≡ [] → faces_of given ≡ []
     → (length (points_of given) ≡ 0) × IsGivenOf vertices before triangles given
-neither vertices before triangles given p f e g = (
+neither vertices before triangles given f e g = (
   ap (λ k. length k) e,
   record {
     points = subst (All InWorld) (sym e) (All-nil InWorld);
     faces = subst (All (IsFaceOf vertices)) (sym g) (All-nil (IsFaceOf vertices));
-    few_points = omega (arith, p, ap (λ k. length k) e);
+    few_points = λ room. subst (λ k. before + length k ≤ MOST_POINTS) (sym e) (no_more before room);
     few_faces = omega (arith, f, ap (λ k. length k) g);
   },
 )
 
 by_keyword : (unit vertices before triangles : ℕ) (words : List (List ℕ)) (given : Given) (v f g : Bool)
-    → before ≤ vertices → before ≤ MOST_POINTS → triangles ≤ MOST_FACES
+    → before ≤ vertices → triangles ≤ MOST_FACES
     → cond v (vertex_of unit before words) (cond f (triangles_of vertices before triangles words)
     (cond g (Ok (GroupName (name_of words))) (Ok Nothing))) ≡ Ok given
     → (length (points_of given) ≡ cond v 1 0) × IsGivenOf vertices before triangles given
-by_keyword unit vertices before triangles words given true f g few p q e =
+by_keyword unit vertices before triangles words given true f g few q e =
     vertex_is unit vertices before triangles words given q e
-by_keyword unit vertices before triangles words given false true g few p q e =
-    triangles_are vertices before triangles words given few p e
-by_keyword unit vertices before triangles words given false false true few p q e =
+by_keyword unit vertices before triangles words given false true g few q e =
+    triangles_are vertices before triangles words given few e
+by_keyword unit vertices before triangles words given false false true few q e =
     let r : GroupName (name_of words) ≡ given = cc in
     subst (λ k. (length (points_of k) ≡ 0) × IsGivenOf vertices before triangles k) r
-    (neither vertices before triangles (GroupName (name_of words)) p q refl refl)
-by_keyword unit vertices before triangles words given false false false few p q e =
+    (neither vertices before triangles (GroupName (name_of words)) q refl refl)
+by_keyword unit vertices before triangles words given false false false few q e =
     let r : Nothing ≡ given = cc in
     subst (λ k. (length (points_of k) ≡ 0) × IsGivenOf vertices before triangles k) r
-    (neither vertices before triangles Nothing p q refl refl)
+    (neither vertices before triangles Nothing q refl refl)
 
 -- a line without a fault gives a vertex exactly where its first word is `v`, and is lawful
 pub given_is : (unit vertices before triangles : ℕ) (words : List (List ℕ)) (given : Given)
-    → before ≤ vertices → before ≤ MOST_POINTS → triangles ≤ MOST_FACES
+    → before ≤ vertices → triangles ≤ MOST_FACES
     → given_of unit vertices before triangles words ≡ Ok given
     → (length (points_of given) ≡ cond (is_vertex words) 1 0) × IsGivenOf vertices before triangles given
-given_is unit vertices before triangles [] given few p q e =
+given_is unit vertices before triangles [] given few q e =
     let r : Nothing ≡ given = cc in
     subst (λ k. (length (points_of k) ≡ 0) × IsGivenOf vertices before triangles k) r
-    (neither vertices before triangles Nothing p q refl refl)
-given_is unit vertices before triangles (keyword ∷ words) given few p q e =
+    (neither vertices before triangles Nothing q refl refl)
+given_is unit vertices before triangles (keyword ∷ words) given few q e =
     by_keyword unit vertices before triangles words given (bytes_eq keyword (codes "v"))
-    (bytes_eq keyword (codes "f")) (bytes_eq keyword (codes "g") || bytes_eq keyword (codes "o")) few p q e
+    (bytes_eq keyword (codes "f")) (bytes_eq keyword (codes "g") || bytes_eq keyword (codes "o")) few q e

@@ -1,13 +1,14 @@
 -- Names that are grouped one after another.
-use Rattle.std.proofs.Common.{◌≡◌, ℕ, ◌+◌, ◌<◌, ◌≤◌, Bool, true, false, List, [], ◌∷◌, ◌++◌, ◌||◌, cond, not, map, suc, zero, length, length-append, refl, sym, ap, subst, ◌∙◌, append_assoc, arith}
+use Rattle.std.proofs.Common.{◌≡◌, ℕ, ◌+◌, ◌<◌, ◌≤◌, Bool, true, false, List, [], ◌∷◌, ◌++◌, ◌||◌, cond, nat_lt, not, map, suc, zero, length, length-append, refl, sym, ap, subst, ◌∙◌, append_assoc, append-nil, arith}
 use Rattle.std.specs.Prelude.{replicate, nat_eq}
 use Rattle.std.specs.Str.{bytes_eq}
 use Rattle.std.specs.List.{All, list_any, position_or_len}
-use Rattle.std.proofs.lemmas.List.{map-append, length-replicate}
+use Rattle.std.proofs.lemmas.List.{map-append, length-map, length-replicate}
 use Rattle.std.proofs.lemmas.List.Elements.{All-cons, All-nil, All-head, All-tail, All-append, All-replicate}
 use Rattle.std.proofs.lemmas.List.Folds.{position_or_len_push}
 use Rattle.std.proofs.lemmas.Bool.Decides.{nat_tests}
 use Rattle.obj_text.specs.Groups.{first_seen, places_in, with_name}
+use Rattle.obj_text.specs.Steps.{groups_with}
 use Rattle.obj_text.proofs.FirstSeen.{same_name, first_seen-push}
 use Rattle.obj_text.specs.Meshes.{IsPlaceIn}
 
@@ -106,21 +107,12 @@ pub record IsGrouped (names groups : List (List ℕ)) (group_of : List ℕ) : Ty
   pub within : All (IsPlaceIn (length groups)) group_of
   pub few : length groups ≤ length group_of
 
-pub no_face_grouped : IsGrouped [] [] []
-no_face_grouped = record {
-  groups_are = refl;
-  places = refl;
-  within = All-nil (IsPlaceIn 0);
-  few = omega arith;
-}
-
 few_more : (k : Bool) (groups : List (List ℕ)) (y : List ℕ)
     → length (cond k groups (groups ++ y ∷ [])) ≤ length groups + 1
 few_more true groups y = omega arith
 few_more false groups y = omega (arith, length-append groups (y ∷ []))
 
--- faces of one name more
-pub more_grouped : (names groups : List (List ℕ)) (group_of : List ℕ) (n : ℕ) (y : List ℕ)
+more_grouped : (names groups : List (List ℕ)) (group_of : List ℕ) (n : ℕ) (y : List ℕ)
     → IsGrouped names groups group_of
     → IsGrouped (names ++ replicate (suc n) y) (with_name groups y)
     (group_of ++ replicate (suc n) (position_or_len (bytes_eq y) (with_name groups y)))
@@ -146,3 +138,22 @@ more_grouped names groups group_of n y g =
         length-replicate (suc n) place,
       );
     }
+
+-- so many faces of one name more
+pub faces_grouped : (names groups : List (List ℕ)) (group_of : List ℕ) (faces : ℕ) (name : List ℕ)
+    → IsGrouped names groups group_of
+    → IsGrouped (names ++ replicate faces name) (groups_with groups name faces)
+    (group_of ++ replicate faces (position_or_len (bytes_eq name) (groups_with groups name faces)))
+faces_grouped names groups group_of zero name g =
+    subst (λ k. IsGrouped k groups (group_of ++ [])) (sym (append-nil names))
+    (subst (IsGrouped names groups) (sym (append-nil group_of)) g)
+faces_grouped names groups group_of (suc n) name g =
+    let some : nat_lt 0 (suc n) ≡ true = grind (arith, nat_tests) in
+    let grouped = λ (k : Bool). IsGrouped (names ++ replicate (suc n) name) (cond k (with_name groups name) groups)
+    (group_of ++ replicate (suc n) (position_or_len (bytes_eq name) (cond k (with_name groups name) groups))) in
+    subst grouped (sym some) (more_grouped names groups group_of n name g)
+
+-- each name has its group
+pub length-grouped : (names groups : List (List ℕ)) (group_of : List ℕ) → IsGrouped names groups group_of
+    → length group_of ≡ length names
+length-grouped names groups group_of g = ap (λ k. length k) g.places ∙ length-map names _

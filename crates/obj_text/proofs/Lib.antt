@@ -3,9 +3,14 @@ pub mod PlainReferences
 pub mod Givens
 pub mod FirstSeen
 pub mod Grouping
-pub mod KnownGroups
 pub mod Counts
-pub mod LineGroups
+pub mod Runs
 pub mod Readings
+pub mod Faultless
 pub mod Outcomes
+pub mod Appending
+pub mod Renumbering
+pub mod TrianglesBefore
+pub mod AppendedParts
+pub mod GroupNames
 mod Examples

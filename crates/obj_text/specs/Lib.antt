@@ -3,3 +3,5 @@ pub mod Rows
 pub mod Groups
 pub mod Texts
 pub mod Steps
+pub mod Parts
+pub mod Ahead

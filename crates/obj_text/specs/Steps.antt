@@ -1,8 +1,7 @@
 -- What one line adds to what was read before it. No public clause cites this module.
-use Rattle.std.specs.Prelude.{◌≡◌, ⊤, ℕ, Bool, List, ◌∷◌, ◌++◌, nat_le, length, if◌then◌else◌, Result, Ok, Err, Option, None, Some, true}
-use Rattle.std.specs.List.{list_any, position_or_len}
-use Rattle.std.specs.Str.{bytes_eq}
+use Rattle.std.specs.Prelude.{◌≡◌, ⊤, ℕ, Bool, List, ◌∷◌, ◌++◌, nat_lt, nat_le, length, if◌then◌else◌, Result, Ok, Err, true, false}
 use Rattle.fixed_box.specs.declared.shapes.Point.{Point}
+use Rattle.obj_text.specs.Groups.{with_name}
 use Rattle.obj_text.specs.Rows.{Given, onward, points_of, faces_of, name_after, position_of, positions_of, fan_from}
 use Rattle.obj_text.specs.declared.face.Face.{Face}
 use Rattle.obj_text.specs.declared.limits.TheConstants.{MOST_FACES}
@@ -28,15 +27,14 @@ IsAdded (Err why) points more_points faces more_faces name next = ⊥
 abbrev pub extended : List Face → Result Given Why → Result (List Face) Why
 extended faces outcome = onward outcome (λ given. Ok (faces ++ faces_of given))
 
--- the place is that of the name, which is among the groups
-pub record IsGroup (groups : List (List ℕ)) (name : List ℕ) (place : ℕ) : Type 0 where
-  pub there : list_any (bytes_eq name) groups ≡ true
-  pub place_is : place ≡ position_or_len (bytes_eq name) groups
+-- a line that is known to leave the current name does so
+abbrev pub KeepsName : List ℕ → List ℕ → Bool → Type 0
+KeepsName name next true = ⊤
+KeepsName name next false = next ≡ name
 
--- a line forgets which group the current name has, or leaves that and the name as they were
-abbrev pub KeepsGroup : List ℕ → List ℕ → Option ℕ → Option ℕ → Type 0
-KeepsGroup name next known None = ⊤
-KeepsGroup name next known (Some place) = (next ≡ name) × (known ≡ Some place)
+-- the groups behind so many faces of this name
+abbrev pub groups_with : List (List ℕ) → List ℕ → ℕ → List (List ℕ)
+groups_with groups name faces = if nat_lt 0 faces then with_name groups name else groups
 
 -- faces, if they are not too many
 abbrev pub few : List Face → Result (List Face) Why

@@ -3,6 +3,7 @@
 //! What a text's mesh is, or which of its lines has the first fault, is defined over the whole text at once.
 #![tactic(auto)]
 
+mod ahead;
 mod coordinates;
 mod face;
 mod fault;
@@ -12,9 +13,11 @@ mod limits;
 mod line_fault;
 mod mesh;
 mod name_bytes;
+mod part;
 mod read;
 mod references;
 mod rows;
+mod split;
 mod vertex_count;
 
 pub use decimals::{GREATEST, MOST_DIGITS, NumberFault, grid, whole};
@@ -22,7 +25,7 @@ pub use face::Face;
 pub use fault::{MeshFault, Why};
 pub use limits::{MOST_BYTES, MOST_FACES, MOST_POINTS};
 pub use mesh::Mesh;
-pub use read::read_mesh;
+pub use read::{read_mesh, read_mesh_joined};
 
 #[cfg(test)]
 mod tests;

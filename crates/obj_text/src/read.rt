@@ -1,27 +1,29 @@
-//! A whole text, read into a mesh line after line, up to the first line that has a fault.
+//! A whole text, read into a mesh: as one part, or in parts by several threads where it is long.
 
-ghost use Rattle.std.specs.Prelude.{◌≡◌, ◌≤◌, length, Ok, IfOk, IfErr};
+ghost use Rattle.std.specs.Prelude.{◌≡◌, ◌≤◌, length, Ok, IfOk, IfErr, IfSome};
 ghost use Rattle.obj_text.specs.Texts.{mesh_of, IsRefusalOf};
 
 use crate::fault::MeshFault;
-use crate::gathered::Gathered;
-use crate::groups::group_faces;
 use crate::limits::MOST_BYTES;
-use crate::line_fault::LineFault;
 use crate::mesh::Mesh;
-use crate::rows::read_line;
+use crate::part::{mesh_of_part, read_part};
+use crate::split::read_apart;
 use crate::vertex_count::VertexCount;
 use fixed_box::UNIT_MAX;
-use indexmap::IndexSet;
 use std::alloc::Global;
-use text_words::JoinedLines;
+use std::thread::Threads;
+
+/// How few bytes are read on the calling thread: fewer are not worth others.
+const LEAST_TEXT: usize = 1_048_576;
+
+/// A longer text is halved to so many levels, and so read in eight parts.
+const LEVELS: u32 = 3;
 
 /// Reads a mesh text, with `unit` grid steps to each unit of its coordinates.
 ///
 /// Lines `v`, `f`, `g` and `o` are read, and all others passed over; `docs/OBJ.md` and `specs/Rows` have their forms.
 /// Vertices count from 1 in the text, and a face may stand before those that it names. `MeshFault::Line` names the
 /// first line that has a fault, counted from 1, and the first of its faults.
-#[tactic(auto, using(crate::proofs::Outcomes::line_faulty, crate::proofs::Outcomes::all_read, crate::proofs::Outcomes::read_is_mesh))]
 pub fn read_mesh(alloc: Global, bytes: &[u8], unit: u32) -> Result<Mesh, MeshFault>
     requires few { length bytes.now ≤ MOST_BYTES }
     requires least_unit { 1 ≤ unit }
@@ -30,39 +32,45 @@ pub fn read_mesh(alloc: Global, bytes: &[u8], unit: u32) -> Result<Mesh, MeshFau
     ensures refusal { IfErr result (IsRefusalOf (mesh_of unit bytes.now)) }
 {
     let mut vertices = VertexCount::new(bytes);
-    let mut gathered = Gathered {
-        points: Vec::new(alloc),
-        faces: Vec::new(alloc),
-        name: b"default",
-        group: None,
-    };
-    let mut groups = IndexSet::new(alloc);
-    let mut group_of = Vec::new(alloc);
-    let mut lines = JoinedLines::new(bytes);
-    while let Some(line) = lines.next_line() {
-        match read_line(&mut lines, unit, &mut vertices, &mut gathered) {
-            Ok(()) => {}
-            Err(LineFault::Faulty(why)) => return Err(MeshFault::Line { line, why }),
-            Err(LineFault::Memory) => return Err(MeshFault::Memory),
-        }
-        let faces = gathered.faces.len();
-        let name = gathered.name;
-        let Ok(()) = group_faces(
-            alloc,
-            &mut groups,
-            &mut group_of,
-            name,
-            &mut gathered.group,
-            faces,
-        ) else {
-            return Err(MeshFault::Memory);
-        };
+    let part = read_part(alloc, bytes, unit, &mut vertices, 0, b"default")?;
+    match mesh_of_part(alloc, part) {
+        Ok(mesh) => Ok(mesh),
+        Err(_) => Err(MeshFault::Memory),
     }
-    let Gathered { points, faces, .. } = gathered;
-    Ok(Mesh {
-        points,
-        faces,
-        group_of,
-        groups,
-    })
+}
+
+/// Reads a long text in parts. `None` where it has a fault, and where memory fails.
+fn read_long<R: Threads + Sync>(rt: &R, alloc: Global, bytes: &[u8], unit: u32) -> Option<Mesh>
+    requires few { length bytes.now ≤ MOST_BYTES }
+    requires least_unit { 1 ≤ unit }
+    requires greatest_unit { unit ≤ UNIT_MAX }
+    ensures { IfSome result (λ mesh. mesh_of unit bytes.now ≡ Ok mesh) }
+{
+    let part = read_apart(rt, alloc, bytes, unit, LEVELS)?;
+    mesh_of_part(alloc, part).ok()
+}
+
+/// Reads a mesh text as `read_mesh` does, with the same answer: a long one in parts, by several threads.
+///
+/// A long text with a fault is read twice, and takes as long as by `read_mesh` and a part of that more. So is one whose
+/// parts want more memory than there is.
+pub fn read_mesh_joined<R: Threads + Sync>(
+    rt: &R,
+    alloc: Global,
+    bytes: &[u8],
+    unit: u32,
+) -> Result<Mesh, MeshFault>
+    requires few { length bytes.now ≤ MOST_BYTES }
+    requires least_unit { 1 ≤ unit }
+    requires greatest_unit { unit ≤ UNIT_MAX }
+    ensures mesh { IfOk result (λ mesh. mesh_of unit bytes.now ≡ Ok mesh) }
+    ensures refusal { IfErr result (IsRefusalOf (mesh_of unit bytes.now)) }
+{
+    if bytes.len() < LEAST_TEXT {
+        return read_mesh(alloc, bytes, unit);
+    }
+    match read_long(rt, alloc, bytes, unit) {
+        Some(mesh) => Ok(mesh),
+        None => read_mesh(alloc, bytes, unit),
+    }
 }

@@ -9,6 +9,7 @@ ghost use Rattle.obj_text.specs.Rows.{has_part, past_part, at_most_one_part, at_
 use crate::fault::Why;
 use crate::limits::GREATEST_NUMBER;
 use crate::vertex_count::VertexCount;
+use text_words::is_digit;
 
 /// The position of the vertex that a word names, in a text with so many vertices, of which so many stand before its
 /// line.
@@ -162,10 +163,4 @@ fn digits(text: &[u8]) -> (u32, &[u8])
         value = (value * 10 + u64::from(*b - b'0')).min(u64::from(GREATEST_NUMBER));
     }
     (value as u32, &text[text.len()..])
-}
-
-fn is_digit(b: u8) -> bool
-    ensures { result ≡ is_digit b }
-{
-    b'0' <= b && b <= b'9'
 }

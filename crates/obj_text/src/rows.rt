@@ -1,10 +1,10 @@
 //! One line of a mesh text, read. What it may name depends on how many vertices the whole text has, so a face may stand
 //! before its vertices.
 
-ghost use Rattle.std.specs.Prelude.{◌≡◌, ◌<◌, ◌≤◌, ◌∷◌, ◌++◌, [], length, drop, MatchOption, MatchResult, OnOk, IfErr, IfOk, Ok, false};
+ghost use Rattle.std.specs.Prelude.{◌≡◌, ◌+◌, ◌<◌, ◌≤◌, ◌∷◌, ◌++◌, [], length, drop, MatchOption, MatchResult, OnOk, IfErr, IfOk, Ok, false};
 ghost use Rattle.obj_text.specs.Rows.{given_of, vertex_of, triangles_of, name_of, position, position_of};
 ghost use Rattle.obj_text.specs.Rows.{Vertex};
-ghost use Rattle.obj_text.specs.Steps.{IsAdded, KeepsGroup, IsLineFault, IsOutcome, extended, all_three, first_corners_of, fan_left};
+ghost use Rattle.obj_text.specs.Steps.{IsAdded, KeepsName, IsLineFault, IsOutcome, extended, all_three, first_corners_of, fan_left};
 
 use crate::coordinates::point;
 use crate::face::Face;
@@ -17,47 +17,52 @@ use crate::vertex_count::VertexCount;
 use fixed_box::Point;
 use text_words::JoinedLines;
 
-/// Reads the line at hand, of a text with so many vertices, behind what was gathered.
+/// Reads the line at hand, of a text with so many vertices, behind so many of them and what was gathered. Answers
+/// whether the current name may be another now.
 pub fn read_line<'a>(
     line: &mut JoinedLines<'a>,
     unit: u32,
     vertices: &mut VertexCount,
+    before: u32,
     gathered: &mut Gathered<'a>,
-) -> Result<(), LineFault>
+) -> Result<bool, LineFault>
     requires vertices { vertices.old < GREATEST_NUMBER }
-    requires before { length gathered.now.points.items ≤ vertices.old }
-    requires points { length gathered.now.points.items ≤ MOST_POINTS }
+    requires before { before + length gathered.now.points.items ≤ vertices.old }
     requires faces { length gathered.now.faces.items ≤ MOST_FACES }
     ensures added { OnOk result (IsAdded
-        (given_of unit vertices.old (length gathered.old.points.items) (length gathered.old.faces.items) line.old.words)
+        (given_of unit vertices.old (before + length gathered.old.points.items) (length gathered.old.faces.items)
+        line.old.words)
         gathered.old.points.items gathered.new.points.items gathered.old.faces.items gathered.new.faces.items
         gathered.old.name.now gathered.new.name.now) }
     ensures fault { IfErr result (IsLineFault
-        (given_of unit vertices.old (length gathered.old.points.items) (length gathered.old.faces.items) line.old.words)) }
-    ensures group { KeepsGroup gathered.old.name.now gathered.new.name.now gathered.old.group gathered.new.group }
+        (given_of unit vertices.old (before + length gathered.old.points.items) (length gathered.old.faces.items)
+        line.old.words)) }
+    ensures name { IfOk result (KeepsName gathered.old.name.now gathered.new.name.now) }
     ensures later { line.new.later ≡ line.old.later }
     ensures same { vertices.new ≡ vertices.old }
 {
     let Some(keyword) = line.next_word() else {
-        return Ok(());
+        return Ok(false);
     };
-    let before = gathered.points.len() as u32;
+    let before = before + gathered.points.len() as u32;
     if keyword == b"v".as_slice() {
         let point = vertex(line, unit, before)?;
-        return add_point(&mut gathered.points, point);
+        add_point(&mut gathered.points, point)?;
+        return Ok(false);
     }
     if keyword == b"f".as_slice() {
-        return triangles(line, vertices, before, &mut gathered.faces);
+        triangles(line, vertices, before, &mut gathered.faces)?;
+        return Ok(false);
     }
     if keyword == b"g".as_slice() || keyword == b"o".as_slice() {
         gathered.name = name(line);
-        gathered.group = None;
+        return Ok(true);
     }
-    Ok(())
+    Ok(false)
 }
 
 /// The name behind the word `g` or `o`.
-fn name<'a>(line: &mut JoinedLines<'a>) -> &'a [u8]
+pub fn name<'a>(line: &mut JoinedLines<'a>) -> &'a [u8]
     ensures name { result.now ≡ name_of line.old.words }
     ensures later { line.new.later ≡ line.old.later }
 {

@@ -5,6 +5,7 @@ use fixed_box::{Point, UNIT_MAX};
 use std::alloc::{AllocError, Global};
 use std::process::Abort;
 use std::test::Fail;
+use std::thread::Threads;
 
 /// `read_mesh`, where it may be called.
 fn read_text(rt: &impl Abort, alloc: Global, text: &[u8], unit: u32) -> Result<Mesh, MeshFault> {
@@ -271,6 +272,97 @@ fn the_line_past_a_limit_is_named(rt: HostRuntime) -> Result<(), Fail> {
             why: Why::TooManyTriangles
         })
     );
+    Ok(())
+}
+
+/// `read_mesh_joined`, where it may be called.
+fn read_joined<R: Threads + Sync + Abort>(
+    rt: &R,
+    alloc: Global,
+    text: &[u8],
+) -> Result<Mesh, MeshFault> {
+    assert!(rt; text.len() <= MOST_BYTES, "the text is too long");
+    read_mesh_joined(rt, alloc, text, 1)
+}
+
+/// Three vertices and four triangles in ten lines, with references from here, joins, and two names.
+const BLOCK: &[u8] = b"o one\nv 0 0 0\nv 1 0 0\r\nv 0 \\\n1 0\nf -3 -2 -1\n\
+f -1 \\\r\n-2 -3 # not joined \\\ng two\nf 1 2 3 1\n";
+
+/// That a face has these corners, and its group this number.
+fn expect_face(rt: &impl Abort, mesh: &Mesh, at: usize, a: u32, b: u32, c: u32, group: u32) {
+    assert_eq!(rt; mesh.faces().get(at), Some(&Face { a, b, c }), "face {at}");
+    assert_eq!(rt;
+        mesh.group_of().get(at),
+        Some(&group),
+        "the group of face {at}"
+    );
+}
+
+/// That two meshes are the same but for the names of their groups.
+fn expect_same(rt: &impl Abort, mesh: &Mesh, other: &Mesh) {
+    assert_eq!(rt; mesh.points(), other.points());
+    assert_eq!(rt; mesh.faces(), other.faces());
+    assert_eq!(rt; mesh.group_of(), other.group_of());
+    assert_eq!(rt; mesh.groups().len(), other.groups().len());
+}
+
+#[test]
+fn a_long_text_is_read_in_parts(rt: HostRuntime) -> Result<(), Fail> {
+    let text = repeated(rt.alloc(), b"", BLOCK, 20_000)?;
+    let mesh = read_joined(&rt, rt.alloc(), &text)?;
+    assert_eq!(rt; mesh.points().len(), 60_000);
+    assert_eq!(rt; mesh.faces().len(), 80_000);
+    assert_eq!(rt; mesh.groups().len(), 2);
+    expect_face(&rt, &mesh, 0, 0, 1, 2, 0);
+    expect_face(&rt, &mesh, 3, 0, 2, 0, 1);
+    expect_face(&rt, &mesh, 40_001, 30_002, 30_001, 30_000, 0);
+    expect_face(&rt, &mesh, 40_002, 0, 1, 2, 1);
+    expect_face(&rt, &mesh, 79_996, 59_997, 59_998, 59_999, 0);
+    expect_face(&rt, &mesh, 79_999, 0, 2, 0, 1);
+    expect_same(&rt, &mesh, &read_text(&rt, rt.alloc(), &text, 1)?);
+    Ok(())
+}
+
+#[test]
+fn a_group_goes_on_from_part_to_part(rt: HostRuntime) -> Result<(), Fail> {
+    let front = b"g far\nf 1 1 90000\n";
+    let text = repeated(rt.alloc(), front, b"v 0 0 0\nf -1 1 1\n", 90_000)?;
+    let mesh = read_joined(&rt, rt.alloc(), &text)?;
+    assert_eq!(rt; mesh.groups().len(), 1);
+    expect_face(&rt, &mesh, 0, 0, 0, 89_999, 0);
+    expect_face(&rt, &mesh, 90_000, 89_999, 0, 0, 0);
+    Ok(())
+}
+
+/// That a long text is refused at a line.
+fn expect_fault<R: Threads + Sync + Abort>(
+    rt: &R,
+    alloc: Global,
+    text: &[u8],
+    line: u32,
+    why: Why,
+) {
+    let fault = read_joined(rt, alloc, text).err();
+    assert_eq!(rt; fault, Some(MeshFault::Line { line, why }));
+}
+
+#[test]
+fn the_first_faulty_line_of_a_long_text_is_named(rt: HostRuntime) -> Result<(), Fail> {
+    let mut text = repeated(rt.alloc(), b"", BLOCK, 20_000)?;
+    text.extend_from_slice(b"v 0 0 0\\\nx\nv 1 x 0\nf 1 1 99999\nv 1 2\n")?;
+    let text = repeated(rt.alloc(), &text, BLOCK, 20_000)?;
+    expect_fault(&rt, rt.alloc(), &text, 200_003, Why::NotANumber);
+    Ok(())
+}
+
+#[test]
+fn triangles_of_all_parts_are_counted(rt: HostRuntime) -> Result<(), Fail> {
+    let full = repeated(rt.alloc(), b"v 0 0 0\n", b"f 1 1 1\n", 1_048_576)?;
+    let mesh = read_joined(&rt, rt.alloc(), &full)?;
+    assert_eq!(rt; mesh.faces().len(), MOST_FACES);
+    let past = repeated(rt.alloc(), &full, b"f 1 1 1\nf 1 1 2\n", 1)?;
+    expect_fault(&rt, rt.alloc(), &past, 1_048_578, Why::TooManyTriangles);
     Ok(())
 }
 

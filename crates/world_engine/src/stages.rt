@@ -17,7 +17,7 @@ use crate::status::Status;
 use crate::world::World;
 use command_line::{MOST_WORKERS, Plan};
 use fixed_box::UNIT_MAX;
-use obj_text::{MOST_BYTES, Mesh, MeshFault, Why, read_mesh};
+use obj_text::{MOST_BYTES, Mesh, MeshFault, Why, read_mesh_joined};
 use outside::{Gate, Sink, Source};
 use std::alloc::Global;
 use std::thread::Threads;
@@ -87,14 +87,19 @@ fn answer_script<S: Source, K: Sink>(
 }
 
 /// Reads the text of a mesh, and lets the text go.
-fn open_mesh(alloc: Global, text: Vec<u8>, unit: u32) -> Result<Mesh, MeshFault>
+fn open_mesh<R: Threads + Sync>(
+    rt: &R,
+    alloc: Global,
+    text: Vec<u8>,
+    unit: u32,
+) -> Result<Mesh, MeshFault>
     requires few { length text.items ≤ MOST_BYTES }
     requires some_unit { 1 ≤ unit }
     requires small_unit { unit ≤ UNIT_MAX }
     ensures mesh { IfOk result (λ mesh. mesh_of unit text.items ≡ Ok mesh) }
     ensures refusal { IfErr result (IsRefusalOf (mesh_of unit text.items)) }
 {
-    read_mesh(alloc, &text, unit)
+    read_mesh_joined(rt, alloc, &text, unit)
 }
 
 /// Opens the world of a mesh text and answers the script in it.
@@ -130,7 +135,7 @@ pub fn answer_mesh<R: Threads + Sync, S: Source, K: Sink, G: Gate>(
     ensures source_kept { result ≢ Status.ReadFault → S.faults script.new ≡ S.faults script.old }
     ensures sink_kept { result ≢ Status.WriteFault → K.faults out.new ≡ K.faults out.old }
 {
-    let mesh = match open_mesh(alloc, text, plan.unit) {
+    let mesh = match open_mesh(rt, alloc, text, plan.unit) {
         Ok(mesh) => mesh,
         Err(MeshFault::Line { line, why }) => return refuse_mesh(alloc, line, why, out),
         Err(MeshFault::Memory) => return Status::Memory,

@@ -1,0 +1,89 @@
+-- What lines without a fault give: points of the world, faces over the text's points, and no more of either than a mesh
+-- has room for.
+use Rattle.std.proofs.Common.{◌≡◌, ℕ, ◌+◌, ◌≤◌, List, [], ◌∷◌, ◌++◌, length, cond, refl, length-append, arith, Ok, Err, Result, None}
+use Rattle.std.specs.Prelude.{replicate}
+use Rattle.std.specs.List.{All}
+use Rattle.std.proofs.lemmas.List.{length-replicate}
+use Rattle.std.proofs.lemmas.List.Elements.{All-append, All-nil}
+use Rattle.std.proofs.lemmas.List.Sums.{sum_by-cons}
+use Rattle.fixed_box.specs.World.{InWorld}
+use Rattle.fixed_box.specs.declared.shapes.Point.{Point}
+use Rattle.text_words.specs.Joins.{JoinedLine}
+use Rattle.obj_text.specs.Meshes.{IsFaceOf}
+use Rattle.obj_text.specs.Rows.{Given, given_of, is_vertex, points_of, faces_of}
+use Rattle.obj_text.specs.Texts.{Reading, vertices_of, readings, points_in, faces_in, names_in, first_faulty, fault_or, faces_read, points_read, name_read}
+use Rattle.obj_text.specs.declared.face.Face.{Face}
+use Rattle.obj_text.specs.declared.fault.Why.{Why}
+use Rattle.obj_text.specs.declared.limits.TheConstants.{MOST_POINTS, MOST_FACES}
+use Rattle.obj_text.proofs.Givens.{given_is}
+
+-- so many points and these faces are lawful in a text with so many vertices, behind so many vertices and triangles
+pub record IsLawful (vertices before triangles count : ℕ) (points : List Point) (faces : List Face) : Type 0 where
+  pub in_world : All InWorld points
+  pub named : All (IsFaceOf vertices) faces
+  pub as_many : length points ≡ count
+  pub few_points : before + length points ≤ MOST_POINTS
+  pub few_faces : triangles + length faces ≤ MOST_FACES
+
+-- a line without a fault, and lines behind it
+line_lawful : (unit vertices before triangles : ℕ) (line : JoinedLine) (lines : List JoinedLine) (later : List Reading)
+    (given : Result Given Why) → given_of unit vertices before triangles line.words ≡ given
+    → before + vertices_of (line ∷ lines) ≤ vertices → before ≤ MOST_POINTS → triangles ≤ MOST_FACES
+    → fault_or line.number given (first_faulty later) ≡ None
+    → (before + cond (is_vertex line.words) 1 0 + vertices_of lines ≤ vertices
+    → before + cond (is_vertex line.words) 1 0 ≤ MOST_POINTS → triangles + length (faces_read given) ≤ MOST_FACES
+    → first_faulty later ≡ None
+    → IsLawful vertices (before + cond (is_vertex line.words) 1 0) (triangles + length (faces_read given))
+    (vertices_of lines) (points_in later) (faces_in later))
+    → IsLawful vertices before triangles (vertices_of (line ∷ lines)) (points_read given ++ points_in later)
+    (faces_read given ++ faces_in later)
+line_lawful unit vertices before triangles line lines later (Err why) e within room few none behind = absurd (cc)
+line_lawful unit vertices before triangles line lines later (Ok given) e within room few none behind =
+    let one : ℕ = cond (is_vertex line.words) 1 0 in
+    let count : vertices_of (line ∷ lines) ≡ one + vertices_of lines =
+    sum_by-cons (λ k. cond (is_vertex k.words) 1 0) line lines in
+    let there : before ≤ vertices = omega (arith, within) in
+    let is = given_is unit vertices before triangles line.words given there few e in
+    let fits = is.1.few_points room in
+    let rest = behind (omega (arith, within, count)) (omega (arith, fits, is.0)) is.1.few_faces none in
+    record {
+      in_world = All-append InWorld (points_of given) (points_in later) is.1.points rest.in_world;
+      named = All-append (IsFaceOf vertices) (faces_of given) (faces_in later) is.1.faces rest.named;
+      as_many = omega (arith, length-append (points_of given) (points_in later), is.0, rest.as_many, count);
+      few_points = omega (arith, length-append (points_of given) (points_in later), is.0, rest.few_points);
+      few_faces = omega (arith, length-append (faces_of given) (faces_in later), rest.few_faces);
+    }
+
+-- lines without a fault
+pub lines_lawful : (unit vertices before triangles : ℕ) (lines : List JoinedLine)
+    → before + vertices_of lines ≤ vertices → before ≤ MOST_POINTS → triangles ≤ MOST_FACES
+    → first_faulty (readings unit vertices before triangles lines) ≡ None
+    → IsLawful vertices before triangles (vertices_of lines) (points_in (readings unit vertices before triangles lines))
+    (faces_in (readings unit vertices before triangles lines))
+lines_lawful unit vertices before triangles [] within room few none = record {
+  in_world = All-nil InWorld;
+  named = All-nil (IsFaceOf vertices);
+  as_many = refl;
+  few_points = omega (arith, room);
+  few_faces = omega (arith, few);
+}
+lines_lawful unit vertices before triangles (line ∷ lines) within room few none =
+    let given = given_of unit vertices before triangles line.words in
+    let b = before + cond (is_vertex line.words) 1 0 in
+    let t = triangles + length (faces_read given) in
+    line_lawful unit vertices before triangles line lines (readings unit vertices b t lines) given refl within room few
+    none (λ w r f n. lines_lawful unit vertices b t lines w r f n)
+
+-- each face has a name
+pub length-names_in : (name : List ℕ) (lines : List Reading) → length (names_in name lines) ≡ length (faces_in lines)
+length-names_in name [] = refl
+length-names_in name (line ∷ lines) =
+    let faces = faces_read line.given in
+    let next = name_read name line.given in
+    omega (
+      arith,
+      length-append (replicate (length faces) name) (names_in next lines),
+      length-replicate (length faces) name,
+      length-append faces (faces_in lines),
+      length-names_in next lines,
+    )

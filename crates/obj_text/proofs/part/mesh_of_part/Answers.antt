@@ -1,0 +1,37 @@
+use Rattle.std.proofs.Common.{rules, arith, ◌≡◌, ◌<◌, [], length, take, get_or, ap}
+use Rattle.obj_text.specs.Parts.{names_of}
+use Rattle.obj_text.specs.declared.part.Run.{Run}
+use Rattle.obj_text.proofs.Grouping.{faces_grouped, length-grouped}
+use Rattle.obj_text.proofs.Runs.{run_taken, names_few}
+use Rattle.obj_text.proofs.part.mesh_of_part.Goals as goal
+
+-- what stands past the last run
+abbrev blank : Run
+blank = record { name = record { ref_ptr = (0, 0); now = [] }; faces = 0 }
+
+pub group_faces-requires-clause-few : goal.group_faces-requires-clause-few
+group_faces-requires-clause-few c =
+    let runs = c.deref-run-items.result.now in
+    let at = c.loop-run.run-index in
+    let some : at < length runs = search rules in
+    let all : runs ≡ c.args.part.runs.items = search rules in
+    omega (
+      arith,
+      ap (λ k. length (names_of k)) all,
+      names_few runs at blank some,
+      length-grouped (names_of (take at runs)) c.loop-run.groups.keys c.loop-run.group_of.items
+          c.loop-run.invariant.grouped,
+      c.requires.mesh.one_name,
+      c.requires.mesh.few_faces,
+    )
+
+pub loop-run-preserved : goal.loop-run-preserved
+loop-run-preserved c =
+    let runs = c.deref-run-items.result.now in
+    let at = c.loop-run.run-index in
+    let some : at < length runs = search rules in
+    let run = get_or runs at blank in
+    let grouped = faces_grouped (names_of (take at runs)) c.loop-run.groups.keys c.loop-run.group_of.items run.faces
+    run.name.now c.loop-run.invariant.grouped in
+    let names = run_taken runs at blank some in
+    search (rules, grouped, names)

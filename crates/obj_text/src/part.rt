@@ -1,0 +1,131 @@
+//! A part of a mesh text, read line after line, up to the first line that has a fault.
+
+ghost use Rattle.std.specs.Prelude.{◌≡◌, ◌≤◌, ◌<◌, ◌+◌, ◌++◌, length, replicate, IfOk, IfErr, OnOk};
+ghost use Rattle.text_words.specs.Joins.{joined_lines_of};
+ghost use Rattle.obj_text.specs.Texts.{vertices_of, readings, first_faulty};
+ghost use Rattle.obj_text.specs.Parts.{IsPart, IsFirstFault, MakesMesh, names_of, mesh_from};
+
+use crate::face::Face;
+use crate::fault::MeshFault;
+use crate::gathered::Gathered;
+use crate::groups::group_faces;
+use crate::limits::{GREATEST_NUMBER, MOST_BYTES};
+use crate::line_fault::LineFault;
+use crate::mesh::Mesh;
+use crate::rows::read_line;
+use crate::vertex_count::VertexCount;
+use fixed_box::{Point, UNIT_MAX};
+use indexmap::IndexSet;
+use std::alloc::{AllocError, Global};
+use text_words::JoinedLines;
+
+/// Faces of one name, that follow one another.
+#[derive(Clone, Copy, Drop)]
+pub struct Run<'a> {
+    pub name: &'a [u8],
+    pub faces: usize,
+}
+
+/// The points and the faces of a part, and the names of these.
+#[derive(Drop)]
+pub struct Part<'a> {
+    pub points: Vec<Point>,
+    pub faces: Vec<Face>,
+    pub runs: Vec<Run<'a>>,
+}
+
+/// Reads a part of a text that has so many vertices, of which so many stand before the part, where this name is
+/// current. Triangles are counted from the part's first line, and so are lines.
+pub fn read_part<'a>(
+    alloc: Global,
+    bytes: &'a [u8],
+    unit: u32,
+    vertices: &mut VertexCount,
+    before: u32,
+    name: &'a [u8],
+) -> Result<Part<'a>, MeshFault>
+    requires few { length bytes.now ≤ MOST_BYTES }
+    requires least_unit { 1 ≤ unit }
+    requires greatest_unit { unit ≤ UNIT_MAX }
+    requires vertices { vertices.old < GREATEST_NUMBER }
+    requires within { before + vertices_of (joined_lines_of bytes.now) ≤ vertices.old }
+    ensures part { IfOk result (λ part. IsPart unit vertices.old before name.now
+        (joined_lines_of bytes.now) part.points.items part.faces.items part.runs.items) }
+    ensures fault { IfErr result (IsFirstFault
+        (first_faulty (readings unit vertices.old before 0 (joined_lines_of bytes.now)))) }
+{
+    let mut gathered = Gathered {
+        points: Vec::new(alloc),
+        faces: Vec::new(alloc),
+        name,
+    };
+    let mut runs = Vec::new(alloc);
+    let mut in_runs = 0;
+    let mut lines = JoinedLines::new(bytes);
+    while let Some(line) = lines.next_line() {
+        let name = gathered.name;
+        let renamed = match read_line(&mut lines, unit, vertices, before, &mut gathered) {
+            Ok(renamed) => renamed,
+            Err(LineFault::Faulty(why)) => return Err(MeshFault::Line { line, why }),
+            Err(LineFault::Memory) => return Err(MeshFault::Memory),
+        };
+        if renamed {
+            let faces = gathered.faces.len();
+            let Ok(()) = add_run(&mut runs, name, faces - in_runs) else {
+                return Err(MeshFault::Memory);
+            };
+            in_runs = faces;
+        }
+    }
+    let Gathered {
+        points,
+        faces,
+        name,
+    } = gathered;
+    let Ok(()) = add_run(&mut runs, name, faces.len() - in_runs) else {
+        return Err(MeshFault::Memory);
+    };
+    Ok(Part {
+        points,
+        faces,
+        runs,
+    })
+}
+
+/// Adds a run of so many faces of a name, if there are any.
+#[tactic(auto, using(crate::proofs::Runs::run_added))]
+fn add_run<'a>(runs: &mut Vec<Run<'a>>, name: &'a [u8], faces: usize) -> Result<(), AllocError>
+    ensures names { OnOk result (names_of runs.new.items ≡ names_of runs.old.items ++ replicate faces name.now) }
+{
+    if faces == 0 {
+        return Ok(());
+    }
+    match runs.push(Run { name, faces }) {
+        Ok(()) => Ok(()),
+        Err(_) => Err(AllocError),
+    }
+}
+
+/// The mesh of a part that is a whole text.
+pub fn mesh_of_part(alloc: Global, part: Part) -> Result<Mesh, AllocError>
+    requires mesh { MakesMesh part.points.items part.faces.items (names_of part.runs.items) }
+    ensures mesh { IfOk result (λ mesh. mesh
+        ≡ mesh_from part.entry.points.items part.entry.faces.items (names_of part.entry.runs.items)) }
+{
+    let Part {
+        points,
+        faces,
+        runs,
+    } = part;
+    let mut groups = IndexSet::new(alloc);
+    let mut group_of = Vec::new(alloc);
+    for run in &runs {
+        group_faces(alloc, &mut groups, &mut group_of, run.name, run.faces)?;
+    }
+    Ok(Mesh {
+        points,
+        faces,
+        group_of,
+        groups,
+    })
+}

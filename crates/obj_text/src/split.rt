@@ -1,0 +1,146 @@
+//! A text read in parts by several threads. It is cut into halves, of which the second is read behind what the first
+//! says of it, and with its triangles counted from none. So both can be read at the same time.
+
+ghost use Rattle.std.specs.Prelude.{◌≡◌, ◌+◌, ◌<◌, ◌≤◌, ◌++◌, length, codes, IfSome};
+ghost use Rattle.std.specs.Thread.{IsSync};
+ghost use Rattle.text_words.specs.Joins.{joined_lines_of};
+ghost use Rattle.obj_text.specs.Texts.{vertices_of};
+ghost use Rattle.obj_text.specs.Parts.{IsPart};
+
+use crate::ahead::ahead_joined;
+use crate::limits::{GREATEST_NUMBER, MOST_BYTES, MOST_FACES};
+use crate::part::{Part, read_part};
+use crate::vertex_count::VertexCount;
+use fixed_box::UNIT_MAX;
+use std::alloc::Global;
+use std::thread::{Threads, join};
+use text_words::halves;
+
+/// A part and the one behind it. `None` where they have too many faces together, and where memory fails.
+fn append<'a>(first: Part<'a>, second: Part<'a>) -> Option<Part<'a>>
+    ensures points { IfSome result (λ part. part.points.items ≡ first.entry.points.items ++ second.entry.points.items) }
+    ensures faces { IfSome result (λ part. part.faces.items ≡ first.entry.faces.items ++ second.entry.faces.items) }
+    ensures runs { IfSome result (λ part. part.runs.items ≡ first.entry.runs.items ++ second.entry.runs.items) }
+    ensures few { IfSome result (λ part. length part.faces.items ≤ MOST_FACES) }
+{
+    let Part {
+        mut points,
+        mut faces,
+        mut runs,
+    } = first;
+    points.extend_from_slice(&second.points).ok()?;
+    faces.extend_from_slice(&second.faces).ok()?;
+    runs.extend_from_slice(&second.runs).ok()?;
+    if faces.len() > MOST_FACES {
+        return None;
+    }
+    Some(Part {
+        points,
+        faces,
+        runs,
+    })
+}
+
+/// Reads a part of a text that has so many vertices, of which so many stand before the part, where this name is
+/// current. `None` where the part has a fault, and where memory fails.
+fn read_alone<'a>(
+    alloc: Global,
+    bytes: &'a [u8],
+    unit: u32,
+    vertices: u32,
+    before: u32,
+    name: &'a [u8],
+) -> Option<Part<'a>>
+    requires few { length bytes.now ≤ MOST_BYTES }
+    requires least_unit { 1 ≤ unit }
+    requires greatest_unit { unit ≤ UNIT_MAX }
+    requires vertices { vertices < GREATEST_NUMBER }
+    requires within { before + vertices_of (joined_lines_of bytes.now) ≤ vertices }
+    ensures { IfSome result (λ part. IsPart unit vertices before name.now (joined_lines_of bytes.now) part.points.items
+        part.faces.items part.runs.items) }
+{
+    let mut vertices = VertexCount::of(vertices);
+    read_part(alloc, bytes, unit, &mut vertices, before, name).ok()
+}
+
+/// The same as `read_alone`, where both halves of the part are read at the same time, and theirs too, to so many
+/// levels. It is `None` also where halves have too many triangles together.
+#[cycle(splits)]
+fn read_split<'a, R: Threads + Sync>(
+    rt: &R,
+    alloc: Global,
+    bytes: &'a [u8],
+    unit: u32,
+    vertices: u32,
+    before: u32,
+    name: &'a [u8],
+    levels: u32,
+) -> Option<Part<'a>>
+    requires few { length bytes.now ≤ MOST_BYTES }
+    requires least_unit { 1 ≤ unit }
+    requires greatest_unit { unit ≤ UNIT_MAX }
+    requires vertices { vertices < GREATEST_NUMBER }
+    requires within { before + vertices_of (joined_lines_of bytes.now) ≤ vertices }
+    ensures { IfSome result (λ part. IsPart unit vertices before name.now (joined_lines_of bytes.now) part.points.items
+        part.faces.items part.runs.items) }
+{
+    if levels == 0 {
+        return read_alone(alloc, bytes, unit, vertices, before, name);
+    }
+    let Some((left, right)) = halves(bytes) else {
+        return read_alone(alloc, bytes, unit, vertices, before, name);
+    };
+    let below = levels - 1;
+    let ahead = ahead_joined(rt, left, levels);
+    let behind = before + ahead.vertices;
+    let current = ahead.name.unwrap_or(name);
+    let first = || -> Option<Part>
+        requires sync { IsSync R.row }
+        requires few { length left.now ≤ MOST_BYTES }
+        requires least_unit { 1 ≤ unit }
+        requires greatest_unit { unit ≤ UNIT_MAX }
+        requires vertices { vertices < GREATEST_NUMBER }
+        requires within { before + vertices_of (joined_lines_of left.now) ≤ vertices }
+        ensures { IfSome result (λ part. IsPart unit vertices before name.entry.now (joined_lines_of left.entry.now)
+            part.points.items part.faces.items part.runs.items) }
+    { read_split(rt, alloc, left, unit, vertices, before, name, below) };
+    let second = || -> Option<Part>
+        requires sync { IsSync R.row }
+        requires few { length right.now ≤ MOST_BYTES }
+        requires least_unit { 1 ≤ unit }
+        requires greatest_unit { unit ≤ UNIT_MAX }
+        requires vertices { vertices < GREATEST_NUMBER }
+        requires within { behind + vertices_of (joined_lines_of right.now) ≤ vertices }
+        ensures { IfSome result (λ part. IsPart unit vertices behind current.entry.now (joined_lines_of right.entry.now)
+            part.points.items part.faces.items part.runs.items) }
+    { read_split(rt, alloc, right, unit, vertices, behind, current, below) };
+    let (front, back) = join(rt, first, second);
+    append(front?, back?)
+}
+
+/// Reads a whole text in parts, halved to so many levels. `None` where it has a fault, and where memory fails.
+pub fn read_apart<'a, R: Threads + Sync>(
+    rt: &R,
+    alloc: Global,
+    bytes: &'a [u8],
+    unit: u32,
+    levels: u32,
+) -> Option<Part<'a>>
+    requires few { length bytes.now ≤ MOST_BYTES }
+    requires least_unit { 1 ≤ unit }
+    requires greatest_unit { unit ≤ UNIT_MAX }
+    ensures { IfSome result (λ part. IsPart unit (vertices_of (joined_lines_of bytes.now)) 0 (codes "default")
+        (joined_lines_of bytes.now) part.points.items part.faces.items part.runs.items) }
+{
+    let whole = ahead_joined(rt, bytes, levels);
+    read_split(
+        rt,
+        alloc,
+        bytes,
+        unit,
+        whole.vertices,
+        0,
+        b"default",
+        levels,
+    )
+}
