@@ -1,3 +1,4 @@
 pub mod NearerNeighbour
 pub mod SpanLists
 pub mod PartLaws
+pub mod KeyLists

@@ -61,7 +61,7 @@ impl World {
         requires few { workers ≤ MOST_WORKERS }
         ensures { IfOk result (λ world. world ≡ world_of mesh) }
     {
-        let boxes = boxes_of(alloc, mesh.points(), mesh.faces())?;
+        let boxes = boxes_of(rt, alloc, mesh.points(), mesh.faces())?;
         let keys = order_joined(rt, alloc, &boxes)?;
         let tree = tree_joined(rt, alloc, keys, &boxes)?;
         Ok(World {
