@@ -3,27 +3,50 @@ use Rattle.std.proofs.Common.{◌≡◌, ℕ, ◌+◌, ◌≤◌, List, ◌++◌
 use Rattle.std.specs.Prelude.{map, Option, None, Some, IfSome}
 use Rattle.fixed_box.specs.declared.shapes.Point.{Point}
 use Rattle.text_words.specs.Joins.{JoinedLine}
-use Rattle.text_words.specs.Halves.{moved_by}
+use Rattle.obj_text.specs.Sections.{renumbered, unnumbered}
 use Rattle.obj_text.specs.Texts.{vertices_of, readings, points_in, faces_in, names_in, first_faulty}
-use Rattle.obj_text.specs.Parts.{names_of, last_name, IsPart}
+use Rattle.obj_text.specs.Parts.{names_of, IsPart}
+use Rattle.obj_text.proofs.CurrentName.{last_name}
 use Rattle.obj_text.specs.declared.face.Face.{Face}
 use Rattle.obj_text.specs.declared.part.Run.{Run}
 use Rattle.obj_text.specs.declared.part.Part.{Part}
 use Rattle.obj_text.specs.declared.limits.TheConstants.{MOST_FACES}
 use Rattle.obj_text.proofs.Appending.{readings-append, points_in-append, faces_in-append, first_faulty-append, names_in-append, names_of-append, name_read_last, name_read_last_is}
-use Rattle.obj_text.proofs.Renumbering.{points_in-moved, faces_in-moved, names_in-moved, first_faulty-moved}
+use Rattle.obj_text.proofs.Renumbering.{points_in-renumbered, faces_in-renumbered, names_in-renumbered, first_faulty-renumbered, first_faulty-own}
 use Rattle.obj_text.proofs.TrianglesBefore.{readings_behind}
 
--- lines moved in the text are the same part
-pub moved_part : (n unit vertices before : ℕ) (name : List ℕ) (lines : List JoinedLine) (points : List Point)
-    (faces : List Face) (runs : List Run) → IsPart unit vertices before name lines points faces runs
-    → IsPart unit vertices before name (map (moved_by n) lines) points faces runs
-moved_part n unit vertices before name lines points faces runs part = record {
-  faultless = first_faulty-moved n unit vertices before 0 lines part.faultless;
-  points_are = part.points_are ∙ sym (points_in-moved n unit vertices before 0 lines);
-  faces_are = part.faces_are ∙ sym (faces_in-moved n unit vertices before 0 lines);
-  names_are = part.names_are ∙ sym (names_in-moved n unit vertices before 0 name lines);
+-- lines with other numbers are the same part
+pub renumbered_part : (f : JoinedLine → ℕ) (unit vertices before : ℕ) (name : List ℕ) (lines : List JoinedLine)
+    (points : List Point) (faces : List Face) (runs : List Run)
+    → IsPart unit vertices before name lines points faces runs
+    → IsPart unit vertices before name (map (renumbered f) lines) points faces runs
+renumbered_part f unit vertices before name lines points faces runs part = record {
+  faultless = first_faulty-renumbered f unit vertices before 0 lines part.faultless;
+  points_are = part.points_are ∙ sym (points_in-renumbered f unit vertices before 0 lines);
+  faces_are = part.faces_are ∙ sym (faces_in-renumbered f unit vertices before 0 lines);
+  names_are = part.names_are ∙ sym (names_in-renumbered f unit vertices before 0 name lines);
 }
+
+-- and so are lines with numbers of their own
+own_part : (f : JoinedLine → ℕ) (unit vertices before : ℕ) (name : List ℕ) (lines : List JoinedLine)
+    (points : List Point) (faces : List Face) (runs : List Run)
+    → IsPart unit vertices before name (map (renumbered f) lines) points faces runs
+    → IsPart unit vertices before name lines points faces runs
+own_part f unit vertices before name lines points faces runs part = record {
+  faultless = first_faulty-own f unit vertices before 0 lines part.faultless;
+  points_are = part.points_are ∙ points_in-renumbered f unit vertices before 0 lines;
+  faces_are = part.faces_are ∙ faces_in-renumbered f unit vertices before 0 lines;
+  names_are = part.names_are ∙ names_in-renumbered f unit vertices before 0 name lines;
+}
+
+-- lines that differ in their numbers alone are the same part
+pub same_part : (unit vertices before : ℕ) (name : List ℕ) (xs ys : List JoinedLine) (points : List Point)
+    (faces : List Face) (runs : List Run) → map unnumbered xs ≡ map unnumbered ys
+    → IsPart unit vertices before name xs points faces runs → IsPart unit vertices before name ys points faces runs
+same_part unit vertices before name xs ys points faces runs e part =
+    own_part (λ l. 0) unit vertices before name ys points faces runs
+    (subst (λ k. IsPart unit vertices before name k points faces runs) e
+    (renumbered_part (λ l. 0) unit vertices before name xs points faces runs part))
 
 -- a part and the next one are the part of both their lines, if there is room for the triangles of both
 pub both_parts : (unit vertices before : ℕ) (name : List ℕ) (xs ys : List JoinedLine) (ps qs : List Point)
@@ -56,21 +79,9 @@ both_parts unit vertices before name xs ys ps qs fs gs rs ss first second room =
           ∙ sym (names_in-append name front alone) ∙ ap (names_in name) (sym whole);
     }
 
--- the same for a text in two parts, where the lines of the second are counted from its own first
-pub appended_parts : (n unit vertices before : ℕ) (name : List ℕ) (xs ys all : List JoinedLine) (ps qs : List Point)
-    (fs gs : List Face) (rs ss : List Run) → all ≡ xs ++ map (moved_by n) ys
-    → IsPart unit vertices before name xs ps fs rs
-    → IsPart unit vertices (before + vertices_of xs) (last_name name xs) ys qs gs ss
-    → length fs + length gs ≤ MOST_FACES
-    → IsPart unit vertices before name all (ps ++ qs) (fs ++ gs) (rs ++ ss)
-appended_parts n unit vertices before name xs ys all ps qs fs gs rs ss e first second room =
-    subst (λ k. IsPart unit vertices before name k (ps ++ qs) (fs ++ gs) (rs ++ ss)) (sym e)
-    (both_parts unit vertices before name xs (map (moved_by n) ys) ps qs fs gs rs ss first
-    (moved_part n unit vertices (before + vertices_of xs) (last_name name xs) ys qs gs ss second) room)
-
 -- the same of a part that may be there, where it is known what its lists are
-pub appended_if_there : (n unit vertices before : ℕ) (name : List ℕ) (xs ys all : List JoinedLine) (first second : Part)
-    (result : Option Part) → all ≡ xs ++ map (moved_by n) ys
+pub both_if_there : (unit vertices before : ℕ) (name : List ℕ) (xs ys all : List JoinedLine) (first second : Part)
+    (result : Option Part) → all ≡ xs ++ ys
     → IsPart unit vertices before name xs first.points.items first.faces.items first.runs.items
     → IsPart unit vertices (before + vertices_of xs) (last_name name xs) ys second.points.items second.faces.items
     second.runs.items
@@ -79,15 +90,26 @@ pub appended_if_there : (n unit vertices before : ℕ) (name : List ℕ) (xs ys 
     → IfSome result (λ part. part.runs.items ≡ first.runs.items ++ second.runs.items)
     → IfSome result (λ part. length part.faces.items ≤ MOST_FACES)
     → IfSome result (λ part. IsPart unit vertices before name all part.points.items part.faces.items part.runs.items)
-appended_if_there n unit vertices before name xs ys all first second None e a b p f r few = tt
-appended_if_there n unit vertices before name xs ys all first second (Some part) e a b p f r few =
+both_if_there unit vertices before name xs ys all first second None e a b p f r few = tt
+both_if_there unit vertices before name xs ys all first second (Some part) e a b p f r few =
     let points = first.points.items ++ second.points.items in
     let faces = first.faces.items ++ second.faces.items in
     let runs = first.runs.items ++ second.runs.items in
     let room : length first.faces.items + length second.faces.items ≤ MOST_FACES =
     omega (arith, few, ap (λ k. length k) f, length-append first.faces.items second.faces.items) in
-    let whole = appended_parts n unit vertices before name xs ys all first.points.items second.points.items
-    first.faces.items second.faces.items first.runs.items second.runs.items e a b room in
+    let both = both_parts unit vertices before name xs ys first.points.items second.points.items first.faces.items
+    second.faces.items first.runs.items second.runs.items a b room in
+    let whole = subst (λ k. IsPart unit vertices before name k points faces runs) (sym e) both in
     subst (λ k. IsPart unit vertices before name all k part.faces.items part.runs.items) (sym p)
     (subst (λ k. IsPart unit vertices before name all points k part.runs.items) (sym f)
     (subst (λ k. IsPart unit vertices before name all points faces k) (sym r) whole))
+
+-- a part that may be there, of lines that differ in their numbers alone, and of as many vertices
+pub same_if_there : (unit vertices others : ℕ) (name : List ℕ) (xs ys : List JoinedLine) (result : Option Part)
+    → vertices ≡ others → map unnumbered xs ≡ map unnumbered ys
+    → IfSome result (λ part. IsPart unit vertices 0 name xs part.points.items part.faces.items part.runs.items)
+    → IfSome result (λ part. IsPart unit others 0 name ys part.points.items part.faces.items part.runs.items)
+same_if_there unit vertices others name xs ys None v e h = tt
+same_if_there unit vertices others name xs ys (Some part) v e h =
+    subst (λ k. IsPart unit k 0 name ys part.points.items part.faces.items part.runs.items) v
+    (same_part unit vertices 0 name xs ys part.points.items part.faces.items part.runs.items e h)

@@ -8,7 +8,8 @@ use Rattle.fixed_box.specs.declared.shapes.Point.{Point}
 use Rattle.text_words.specs.Joins.{JoinedLine}
 use Rattle.obj_text.specs.Rows.{Given, Nothing, Vertex, Triangles, GroupName, onward, point_of, positions_of, fan, one_more_vertex, more_triangles, vertex_of, triangles_of, name_of, given_of, is_vertex}
 use Rattle.obj_text.specs.Texts.{vertices_of, Reading, readings, points_in, faces_in, names_in, first_faulty, fault_or, points_read, faces_read, name_read, FaultyLine}
-use Rattle.obj_text.specs.Parts.{names_of, name_behind, last_name}
+use Rattle.obj_text.specs.Parts.{names_of}
+use Rattle.obj_text.proofs.CurrentName.{name_behind, last_name}
 use Rattle.obj_text.specs.declared.part.Run.{Run}
 use Rattle.obj_text.specs.declared.fault.Why.{Why}
 use Rattle.obj_text.specs.declared.fault.Why.TheVariants.{TooManyVertices, TooManyTriangles}

@@ -1,12 +1,11 @@
 -- The current name behind lines, where it is known and where it is not.
 use Rattle.std.proofs.Common.{◌≡◌, ℕ, Bool, true, false, List, [], ◌∷◌, ◌++◌, cond, refl, sym, ap, ◌∙◌, Bor}
-use Rattle.std.specs.Prelude.{◌||◌, codes, map, Option, None, Some}
+use Rattle.std.specs.Prelude.{◌||◌, codes, Option, None, Some}
 use Rattle.std.specs.Option.{option_map, option_or, unwrap_or}
 use Rattle.std.specs.Str.{bytes_eq}
 use Rattle.text_words.specs.Joins.{JoinedLine}
-use Rattle.text_words.specs.Halves.{moved_by}
 use Rattle.obj_text.specs.Rows.{name_of}
-use Rattle.obj_text.specs.Parts.{name_behind, last_name}
+use Rattle.obj_text.proofs.CurrentName.{name_behind, last_name}
 use Rattle.obj_text.specs.Ahead.{known_behind, last_known, last_group}
 
 -- behind other lines
@@ -14,12 +13,6 @@ last_known-append : (known : Option (List ℕ)) (xs ys : List JoinedLine)
     → last_known known (xs ++ ys) ≡ last_known (last_known known xs) ys
 last_known-append known [] ys = refl
 last_known-append known (x ∷ xs) ys = last_known-append (known_behind known x.words) xs ys
-
--- behind lines moved in the text
-last_known-moved : (n : ℕ) (known : Option (List ℕ)) (lines : List JoinedLine)
-    → last_known known (map (moved_by n) lines) ≡ last_known known lines
-last_known-moved n known [] = refl
-last_known-moved n known (line ∷ lines) = last_known-moved n (known_behind known line.words) lines
 
 -- the name of a group, else what was known before, by the test for a group
 known_by : (group : Bool) (known : Option (List ℕ)) (next : List ℕ)
@@ -50,12 +43,10 @@ last_known_is known (line ∷ lines) =
     ∙ option_or_assoc (last_group lines) one known
     ∙ ap (λ k. option_or k known) (sym (last_known_is one lines))
 
--- the last group of a text in two parts: that of the second, else that of the first
-pub last_group_of_both : (n : ℕ) (xs ys all : List JoinedLine) → all ≡ xs ++ map (moved_by n) ys
-    → last_group all ≡ option_or (last_group ys) (last_group xs)
-last_group_of_both n xs ys all e =
-    ap last_group e ∙ last_known-append None xs (map (moved_by n) ys) ∙ last_known-moved n (last_group xs) ys
-    ∙ last_known_is (last_group xs) ys
+-- the last group of lines and of those behind them: that of the second, else that of the first
+pub last_group-append : (xs ys : List JoinedLine)
+    → last_group (xs ++ ys) ≡ option_or (last_group ys) (last_group xs)
+last_group-append xs ys = last_known-append None xs ys ∙ last_known_is (last_group xs) ys
 
 -- the current name behind a line, by the test for a group
 name_by : (group : Bool) (known : Option (List ℕ)) (name next : List ℕ)

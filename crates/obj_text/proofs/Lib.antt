@@ -8,9 +8,11 @@ pub mod Runs
 pub mod Readings
 pub mod Faultless
 pub mod Outcomes
+pub mod CurrentName
 pub mod Appending
 pub mod Renumbering
 pub mod TrianglesBefore
 pub mod AppendedParts
 pub mod GroupNames
+pub mod SectionLists
 mod Examples

@@ -3,72 +3,78 @@ use Rattle.std.proofs.Common.{◌≡◌, ℕ, ◌+◌, List, [], ◌∷◌, ◌+
 use Rattle.std.specs.Prelude.{map, replicate, Option, None}
 use Rattle.std.proofs.lemmas.List.Sums.{sum_by-cons}
 use Rattle.text_words.specs.Joins.{JoinedLine}
-use Rattle.text_words.specs.Halves.{moved_by}
+use Rattle.obj_text.specs.Sections.{renumbered}
 use Rattle.obj_text.specs.Rows.{Given, given_of, is_vertex}
 use Rattle.obj_text.specs.Texts.{vertices_of, readings, points_in, faces_in, names_in, first_faulty, fault_or, points_read, faces_read, name_read, FaultyLine}
-use Rattle.obj_text.specs.Parts.{name_behind, last_name}
 use Rattle.obj_text.specs.declared.fault.Why.{Why}
 
 -- how many of them are `v` lines
-pub vertices_of-moved : (n : ℕ) (lines : List JoinedLine) → vertices_of (map (moved_by n) lines) ≡ vertices_of lines
-vertices_of-moved n [] = refl
-vertices_of-moved n (line ∷ lines) =
+pub vertices_of-renumbered : (f : JoinedLine → ℕ) (lines : List JoinedLine) → vertices_of (map (renumbered f) lines) ≡ vertices_of lines
+vertices_of-renumbered f [] = refl
+vertices_of-renumbered f (line ∷ lines) =
     let one = cond (is_vertex line.words) 1 0 in
-    sum_by-cons (λ k. cond (is_vertex k.words) 1 0) (moved_by n line) (map (moved_by n) lines)
-    ∙ ap (λ k. one + k) (vertices_of-moved n lines)
+    sum_by-cons (λ k. cond (is_vertex k.words) 1 0) (renumbered f line) (map (renumbered f) lines)
+    ∙ ap (λ k. one + k) (vertices_of-renumbered f lines)
     ∙ sym (sum_by-cons (λ k. cond (is_vertex k.words) 1 0) line lines)
 
--- the current name behind them
-pub last_name-moved : (n : ℕ) (name : List ℕ) (lines : List JoinedLine)
-    → last_name name (map (moved_by n) lines) ≡ last_name name lines
-last_name-moved n name [] = refl
-last_name-moved n name (line ∷ lines) = last_name-moved n (name_behind name line.words) lines
-
 -- their points
-pub points_in-moved : (n unit vertices before triangles : ℕ) (lines : List JoinedLine)
-    → points_in (readings unit vertices before triangles (map (moved_by n) lines))
+pub points_in-renumbered : (f : JoinedLine → ℕ) (unit vertices before triangles : ℕ) (lines : List JoinedLine)
+    → points_in (readings unit vertices before triangles (map (renumbered f) lines))
     ≡ points_in (readings unit vertices before triangles lines)
-points_in-moved n unit vertices before triangles [] = refl
-points_in-moved n unit vertices before triangles (line ∷ lines) =
+points_in-renumbered f unit vertices before triangles [] = refl
+points_in-renumbered f unit vertices before triangles (line ∷ lines) =
     let given = given_of unit vertices before triangles line.words in
-    ap (λ k. points_read given ++ k) (points_in-moved n unit vertices (before + cond (is_vertex line.words) 1 0)
+    ap (λ k. points_read given ++ k) (points_in-renumbered f unit vertices (before + cond (is_vertex line.words) 1 0)
     (triangles + length (faces_read given)) lines)
 
 -- their faces
-pub faces_in-moved : (n unit vertices before triangles : ℕ) (lines : List JoinedLine)
-    → faces_in (readings unit vertices before triangles (map (moved_by n) lines))
+pub faces_in-renumbered : (f : JoinedLine → ℕ) (unit vertices before triangles : ℕ) (lines : List JoinedLine)
+    → faces_in (readings unit vertices before triangles (map (renumbered f) lines))
     ≡ faces_in (readings unit vertices before triangles lines)
-faces_in-moved n unit vertices before triangles [] = refl
-faces_in-moved n unit vertices before triangles (line ∷ lines) =
+faces_in-renumbered f unit vertices before triangles [] = refl
+faces_in-renumbered f unit vertices before triangles (line ∷ lines) =
     let given = given_of unit vertices before triangles line.words in
-    ap (λ k. faces_read given ++ k) (faces_in-moved n unit vertices (before + cond (is_vertex line.words) 1 0)
+    ap (λ k. faces_read given ++ k) (faces_in-renumbered f unit vertices (before + cond (is_vertex line.words) 1 0)
     (triangles + length (faces_read given)) lines)
 
 -- the names of these
-pub names_in-moved : (n unit vertices before triangles : ℕ) (name : List ℕ) (lines : List JoinedLine)
-    → names_in name (readings unit vertices before triangles (map (moved_by n) lines))
+pub names_in-renumbered : (f : JoinedLine → ℕ) (unit vertices before triangles : ℕ) (name : List ℕ) (lines : List JoinedLine)
+    → names_in name (readings unit vertices before triangles (map (renumbered f) lines))
     ≡ names_in name (readings unit vertices before triangles lines)
-names_in-moved n unit vertices before triangles name [] = refl
-names_in-moved n unit vertices before triangles name (line ∷ lines) =
+names_in-renumbered f unit vertices before triangles name [] = refl
+names_in-renumbered f unit vertices before triangles name (line ∷ lines) =
     let given = given_of unit vertices before triangles line.words in
-    ap (λ k. replicate (length (faces_read given)) name ++ k) (names_in-moved n unit vertices
+    ap (λ k. replicate (length (faces_read given)) name ++ k) (names_in-renumbered f unit vertices
     (before + cond (is_vertex line.words) 1 0) (triangles + length (faces_read given)) (name_read name given) lines)
 
 -- a line without a fault has none under another number
-fault_or-moved : (number moved : ℕ) (given : Result Given Why) (later others : Option FaultyLine)
-    → fault_or number given later ≡ None → (later ≡ None → others ≡ None) → fault_or moved given others ≡ None
-fault_or-moved number moved (Ok given) later others e f = f e
-fault_or-moved number moved (Err why) later others e f = absurd (cc)
+fault_or-renumbered : (number other : ℕ) (given : Result Given Why) (later others : Option FaultyLine)
+    → fault_or number given later ≡ None → (later ≡ None → others ≡ None) → fault_or other given others ≡ None
+fault_or-renumbered number other (Ok given) later others e f = f e
+fault_or-renumbered number other (Err why) later others e f = absurd (cc)
 
 -- that none of them has a fault
-pub first_faulty-moved : (n unit vertices before triangles : ℕ) (lines : List JoinedLine)
+pub first_faulty-renumbered : (f : JoinedLine → ℕ) (unit vertices before triangles : ℕ) (lines : List JoinedLine)
     → first_faulty (readings unit vertices before triangles lines) ≡ None
-    → first_faulty (readings unit vertices before triangles (map (moved_by n) lines)) ≡ None
-first_faulty-moved n unit vertices before triangles [] e = refl
-first_faulty-moved n unit vertices before triangles (line ∷ lines) e =
+    → first_faulty (readings unit vertices before triangles (map (renumbered f) lines)) ≡ None
+first_faulty-renumbered f unit vertices before triangles [] e = refl
+first_faulty-renumbered f unit vertices before triangles (line ∷ lines) e =
     let given = given_of unit vertices before triangles line.words in
     let b = before + cond (is_vertex line.words) 1 0 in
     let t = triangles + length (faces_read given) in
-    fault_or-moved line.number (n + line.number) given (first_faulty (readings unit vertices b t lines))
-    (first_faulty (readings unit vertices b t (map (moved_by n) lines))) e
-    (first_faulty-moved n unit vertices b t lines)
+    fault_or-renumbered line.number (f line) given (first_faulty (readings unit vertices b t lines))
+    (first_faulty (readings unit vertices b t (map (renumbered f) lines))) e
+    (first_faulty-renumbered f unit vertices b t lines)
+
+-- and that none of them has one under numbers of their own
+pub first_faulty-own : (f : JoinedLine → ℕ) (unit vertices before triangles : ℕ) (lines : List JoinedLine)
+    → first_faulty (readings unit vertices before triangles (map (renumbered f) lines)) ≡ None
+    → first_faulty (readings unit vertices before triangles lines) ≡ None
+first_faulty-own f unit vertices before triangles [] e = refl
+first_faulty-own f unit vertices before triangles (line ∷ lines) e =
+    let given = given_of unit vertices before triangles line.words in
+    let b = before + cond (is_vertex line.words) 1 0 in
+    let t = triangles + length (faces_read given) in
+    fault_or-renumbered (f line) line.number given
+    (first_faulty (readings unit vertices b t (map (renumbered f) lines)))
+    (first_faulty (readings unit vertices b t lines)) e (first_faulty-own f unit vertices b t lines)

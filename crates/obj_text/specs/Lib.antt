@@ -5,3 +5,4 @@ pub mod Texts
 pub mod Steps
 pub mod Parts
 pub mod Ahead
+pub mod Sections

@@ -1,12 +1,10 @@
 -- What a part of a text gives, where it is known what stands before it. No public clause cites this module.
-use Rattle.std.specs.Prelude.{◌≡◌, ℕ, List, [], ◌∷◌, ◌++◌, ◌||◌, ◌≤◌, ⊤, length, replicate, codes, if◌then◌else◌, Option, None, Some}
+use Rattle.std.specs.Prelude.{◌≡◌, ℕ, List, [], ◌∷◌, ◌++◌, ◌≤◌, ⊤, length, replicate, Option, None, Some}
 use Rattle.std.specs.List.{All}
-use Rattle.std.specs.Str.{bytes_eq}
 use Rattle.fixed_box.specs.World.{InWorld}
 use Rattle.fixed_box.specs.declared.shapes.Point.{Point}
 use Rattle.text_words.specs.Joins.{JoinedLine}
 use Rattle.obj_text.specs.Meshes.{MeshLists, IsFaceOf}
-use Rattle.obj_text.specs.Rows.{name_of}
 use Rattle.obj_text.specs.Groups.{first_seen, places_in}
 use Rattle.obj_text.specs.Texts.{readings, points_in, faces_in, names_in, first_faulty, FaultyLine}
 use Rattle.obj_text.specs.declared.face.Face.{Face}
@@ -19,17 +17,6 @@ use Rattle.obj_text.specs.declared.part.Run.{Run}
 abbrev pub names_of : List Run → List (List ℕ)
 names_of [] = []
 names_of (run ∷ runs) = replicate run.faces run.name.now ++ names_of runs
-
--- the current name behind a line of these words
-abbrev pub name_behind : List ℕ → List (List ℕ) → List ℕ
-name_behind name [] = name
-name_behind name (keyword ∷ words) =
-    if bytes_eq keyword (codes "g") || bytes_eq keyword (codes "o") then name_of words else name
-
--- the current name behind lines
-abbrev pub last_name : List ℕ → List JoinedLine → List ℕ
-last_name name [] = name
-last_name name (line ∷ lines) = last_name (name_behind name line.words) lines
 
 -- lines without a fault give these points, and faces in these runs, where so many vertices and this name stand before
 -- them, and as many triangles as there is room for

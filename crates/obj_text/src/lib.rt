@@ -17,6 +17,7 @@ mod part;
 mod read;
 mod references;
 mod rows;
+mod sections;
 mod split;
 mod vertex_count;
 

@@ -1,10 +1,60 @@
-use Rattle.std.proofs.Common.{◌≡◌, ◌+◌, rules, subst}
-use Rattle.text_words.specs.Joins.{joined_lines_of}
+use Rattle.std.proofs.Common.{◌≡◌, ◌+◌, ◌/◌, ◌<◌, length, arith, rules, subst, sym}
+use Rattle.std.specs.Prelude.{All}
+use Rattle.std.proofs.lemmas.List.Elements.{All-take, All-drop}
 use Rattle.obj_text.specs.Texts.{vertices_of}
-use Rattle.obj_text.specs.Parts.{IsPart, last_name}
-use Rattle.obj_text.proofs.AppendedParts.{appended_if_there}
+use Rattle.obj_text.specs.Parts.{IsPart}
+use Rattle.obj_text.specs.Sections.{lines_in, IsCounted}
+use Rattle.obj_text.proofs.CurrentName.{last_name}
+use Rattle.obj_text.proofs.AppendedParts.{both_if_there}
 use Rattle.obj_text.proofs.GroupNames.{name_behind_ahead}
+use Rattle.obj_text.proofs.SectionLists.{vertices_of_halves, lines_of_halves}
 use Rattle.obj_text.proofs.split.+splits.Goals as goal
+
+pub ahead_of_all-ahead-requires-clause-few : goal.ahead_of_all-ahead-requires-clause-few
+ahead_of_all-ahead-requires-clause-few g t c =
+    omega (
+      arith,
+      vertices_of_halves _ c.args.sections.now c.split_at.result.0.now c.split_at.result.1.now
+          c.split_at.ensures.front c.split_at.ensures.back,
+      c.requires.within,
+      c.requires.vertices,
+    )
+
+pub overflow_add-behind : goal.overflow_add-behind
+overflow_add-behind g t c =
+    omega (
+      arith,
+      vertices_of_halves _ c.args.sections.now c.split_at.result.0.now c.split_at.result.1.now
+          c.split_at.ensures.front c.split_at.ensures.back,
+      c.ahead_of_all-ahead.ensures.vertices,
+      c.requires.within,
+      c.ranges.vertices,
+    )
+
+pub join-front-requires-after_bounds : goal.join-front-requires-after_bounds
+join-front-requires-after_bounds g t c κs within =
+    let sections = c.args.sections.now in
+    let left = c.split_at.result.0.now in
+    let right = c.split_at.result.1.now in
+    let cut = c.split_at.ensures in
+    let both : vertices_of (lines_in sections) ≡ vertices_of (lines_in left) + vertices_of (lines_in right) =
+    vertices_of_halves _ sections left right cut.front cut.back in
+    let sooner : length left < length sections = omega (arith, cut.front_len, c.if-sections-lt2.false) in
+    let later : length right < length sections = omega (arith, cut.back_len, c.if-sections-lt2.false) in
+    let first : All IsCounted left =
+    subst (All IsCounted) (sym cut.front) (All-take IsCounted (length sections / 2) sections c.requires.each) in
+    let second : All IsCounted right =
+    subst (All IsCounted) (sym cut.back) (All-drop IsCounted (length sections / 2) sections c.requires.each) in
+    let ahead = c.ahead_of_all-ahead.ensures.vertices in (
+      (
+        omega (arith, sooner),
+        (search rules, (search rules, (first, (search rules, (search rules, (search rules, (omega (arith, both, c.requires.within), search rules))))))),
+      ),
+      (
+        omega (arith, later),
+        (search rules, (search rules, (second, (search rules, (search rules, (search rules, (omega (arith, both, ahead, c.requires.within), search rules))))))),
+      ),
+    )
 
 pub returns : goal.returns
 returns g t c =
@@ -12,22 +62,22 @@ returns g t c =
     let vertices = c.args.vertices in
     let before = c.args.before in
     let name = c.args.name.now in
-    let left = joined_lines_of c.in-Some.left.now in
-    let right = joined_lines_of c.in-Some.right.now in
-    let ahead = c.ahead_joined-ahead.result in
+    let left = c.split_at.result.0.now in
+    let right = c.split_at.result.1.now in
+    let ahead = c.ahead_of_all-ahead.result in
     let front = c.in_ok-front.field-0 in
     let back = c.in_ok-back.field-0 in
-    let named : c.unwrap_or-current.result.now ≡ last_name name left =
-    name_behind_ahead c.args.name c.unwrap_or-current.result ahead.name left c.unwrap_or-current.ensures
-    c.ahead_joined-ahead.ensures.name in
-    let first : IsPart unit vertices before name left front.points.items front.faces.items front.runs.items =
-    search rules in
-    let second : IsPart unit vertices (before + ahead.vertices) c.unwrap_or-current.result.now right back.points.items
-    back.faces.items back.runs.items = search rules in
-    let behind = subst (λ k. IsPart unit vertices (before + vertices_of left) k right back.points.items
-    back.faces.items back.runs.items) named
-    (subst (λ k. IsPart unit vertices (before + k) c.unwrap_or-current.result.now right back.points.items
-    back.faces.items back.runs.items) c.ahead_joined-ahead.ensures.vertices second) in
-    appended_if_there _ unit vertices before name left right (joined_lines_of c.args.bytes.now) front back
-    c.append.result c.in-Some.ensures.lines first behind c.append.ensures.points c.append.ensures.faces
-    c.append.ensures.runs c.append.ensures.few
+    let named : c.unwrap_or-current.result.now ≡ last_name name (lines_in left) =
+    name_behind_ahead c.args.name c.unwrap_or-current.result ahead.name (lines_in left) c.unwrap_or-current.ensures
+    c.ahead_of_all-ahead.ensures.name in
+    let first : IsPart unit vertices before name (lines_in left) front.points.items front.faces.items
+    front.runs.items = search rules in
+    let second : IsPart unit vertices (before + ahead.vertices) c.unwrap_or-current.result.now (lines_in right)
+    back.points.items back.faces.items back.runs.items = search rules in
+    let behind = subst (λ k. IsPart unit vertices (before + vertices_of (lines_in left)) k (lines_in right)
+    back.points.items back.faces.items back.runs.items) named
+    (subst (λ k. IsPart unit vertices (before + k) c.unwrap_or-current.result.now (lines_in right) back.points.items
+    back.faces.items back.runs.items) c.ahead_of_all-ahead.ensures.vertices second) in
+    both_if_there unit vertices before name (lines_in left) (lines_in right) (lines_in c.args.sections.now) front back
+    c.append.result (lines_of_halves _ c.args.sections.now left right c.split_at.ensures.front c.split_at.ensures.back)
+    first behind c.append.ensures.points c.append.ensures.faces c.append.ensures.runs c.append.ensures.few

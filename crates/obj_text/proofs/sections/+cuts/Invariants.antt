@@ -1,8 +1,8 @@
 use Rattle.std.proofs.Common.{◌+◌, ◌*◌}
-use Rattle.obj_text.proofs.ahead.+passes.Given as goal
+use Rattle.obj_text.proofs.sections.+cuts.Given as goal
 
-abbrev pub decreases-ahead_joined : goal.decreases-ahead_joined
-decreases-ahead_joined g l = 2 * l.levels
+abbrev pub decreases-cut : goal.decreases-cut
+decreases-cut g l = 2 * l.levels
 
 abbrev pub decreases-first : goal.decreases-first
 decreases-first g l = 2 * l.below + 1
