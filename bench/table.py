@@ -12,7 +12,8 @@ Times are processor time, user and system, since others may load the machine; wi
 they are by the clock. They are differences of whole runs, of the program and of the yardstick alike, so that starting and
 ending count in neither:
 
-- read: a mesh that is refused at its last line, less an empty mesh.
+- read: a mesh that is refused at its last line, less an empty mesh. (A long one is read by threads first, and once more
+  on one thread since it is refused: both count here, and so the build below comes out short. The sum of both is right.)
 - build: an empty script over the mesh, less the reading. (The yardstick refuses nothing. What it takes to open the mesh is
   parted between the two as it says itself.)
 - boxes, segments: a script of them over the mesh, less the empty script. Reading the lines and writing the replies counts.
