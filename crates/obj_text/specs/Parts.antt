@@ -19,7 +19,7 @@ names_of [] = []
 names_of (run ∷ runs) = replicate run.faces run.name.now ++ names_of runs
 
 -- lines without a fault give these points, and faces in these runs, where so many vertices and this name stand before
--- them, and as many triangles as there is room for
+-- them, and triangles are counted from the first of these lines
 pub record IsPart (unit vertices before : ℕ) (name : List ℕ) (lines : List JoinedLine) (points : List Point)
     (faces : List Face) (runs : List Run) : Type 0 where
   pub faultless : first_faulty (readings unit vertices before 0 lines) ≡ None
