@@ -1,0 +1,131 @@
+//! What a world keeps so that queries need not look at each triangle: the triangles' boxes, and the tree over them.
+//! While points are moved boxes and tree stay as they are; the next call that looks at them fits them first.
+
+ghost use Rattle.std.specs.Prelude.{◌≡◌, ◌≤◌, ◌<◌, ℕ, [], length, IsOk, IfOk, OnOk, OnErr, All};
+ghost use Rattle.fixed_box.specs.World.{InWorld};
+ghost use Rattle.obj_text.specs.Meshes.{IsFaceOf};
+ghost use Rattle.world_engine.specs.Worlds.{boxes_at};
+ghost use Rattle.world_engine.specs.Kept.{IsIndex};
+
+use crate::corners::boxes_of;
+use crate::fans::Fans;
+use crate::marks::Marks;
+use crate::mending::fit_moved;
+use fixed_box::{Box3, Point};
+use karras_build::{order_joined, tree_joined};
+use obj_text::{Face, MOST_FACES, MOST_POINTS};
+use outside::Memory;
+use radix_tree::Tree;
+use refit::refit;
+use std::alloc::Global;
+use std::snapshot::Snapshot;
+use std::thread::Threads;
+
+/// The boxes of triangles, and the tree over them, built over some points and fitted to those or to later ones.
+#[derive(Drop)]
+pub struct Index {
+    pub boxes: Vec<Box3>,
+    pub tree: Tree,
+    /// The points of the build. Only proofs read them.
+    pub built: Snapshot<Vec<Point>>,
+    /// The vertices that were moved since boxes and tree were fitted.
+    pub marks: Marks,
+    /// The triangles that use each vertex, once they were needed.
+    pub fans: Option<Fans>,
+}
+
+impl Index {
+    /// The index of these points, by as many threads as it is worth.
+    pub fn build<R: Threads + Sync>(
+        rt: &R,
+        alloc: Global,
+        points: &Vec<Point>,
+        faces: &[Face],
+    ) -> Result<Index, Memory>
+        requires world { All InWorld points.now.items }
+        requires named { All (IsFaceOf (length points.now.items)) faces.now }
+        requires few { length faces.now ≤ MOST_FACES }
+        ensures index { IfOk result (λ index. IsIndex index points.now.items faces.now) }
+        ensures still { IfOk result (λ index. index.marks.moved ≡ []) }
+        ensures built { IfOk result (λ index. index.built.value.items ≡ points.now.items) }
+    {
+        let boxes = boxes_of(rt, alloc, points, faces)?;
+        let keys = order_joined(rt, alloc, &boxes)?;
+        let tree = tree_joined(rt, alloc, keys, &boxes)?;
+        let marks = Marks::none(alloc, points.len())?;
+        Ok(Index {
+            boxes,
+            tree,
+            built: Snapshot::of(points),
+            marks,
+            fans: None,
+        })
+    }
+
+    /// Fits the boxes of triangles that use moved vertices.
+    fn fit_boxes(&mut self, alloc: Global, points: &[Point], faces: &[Face]) -> Result<(), Memory>
+        requires named { All (IsFaceOf (length points.now)) faces.now }
+        requires few { length faces.now ≤ MOST_FACES }
+        requires index { IsIndex self.old points.now faces.now }
+        ensures index { IsIndex self.new points.now faces.now }
+        ensures boxes { OnOk result (self.new.boxes.items ≡ boxes_at points.now faces.now) }
+        ensures marks { self.new.marks ≡ self.old.marks }
+        ensures built { self.new.built.value.items ≡ self.old.built.value.items }
+    {
+        if self.marks.is_empty() {
+            return Ok(());
+        }
+        let fans = match self.fans.take() {
+            Some(fans) => fans,
+            None => Fans::of(alloc, points.len(), faces)?,
+        };
+        fit_moved(points, faces, &fans, self.marks.moved(), &mut self.boxes);
+        self.fans = Some(fans);
+        Ok(())
+    }
+
+    /// Fits boxes and tree to the points now, where vertices were moved. After `Memory` the next call does.
+    pub fn mend(&mut self, alloc: Global, points: &[Point], faces: &[Face]) -> Result<(), Memory>
+        requires named { All (IsFaceOf (length points.now)) faces.now }
+        requires few { length faces.now ≤ MOST_FACES }
+        requires index { IsIndex self.old points.now faces.now }
+        ensures index { IsIndex self.new points.now faces.now }
+        ensures mended { OnOk result (self.new.marks.moved ≡ []) }
+        ensures free { self.old.marks.moved ≡ [] → IsOk result }
+        ensures built { self.new.built.value.items ≡ self.old.built.value.items }
+    {
+        if self.marks.is_empty() {
+            return Ok(());
+        }
+        self.fit_boxes(alloc, points, faces)?;
+        refit(alloc, &mut self.tree, &self.boxes)?;
+        self.marks.clear();
+        Ok(())
+    }
+
+    /// Builds the tree anew over the points now, by as many threads as it is worth. After `Memory` the old tree stands.
+    pub fn rebuild<R: Threads + Sync>(
+        &mut self,
+        rt: &R,
+        alloc: Global,
+        points: &Vec<Point>,
+        faces: &[Face],
+    ) -> Result<(), Memory>
+        requires world { All InWorld points.now.items }
+        requires named { All (IsFaceOf (length points.now.items)) faces.now }
+        requires few { length faces.now ≤ MOST_FACES }
+        requires index { IsIndex self.old points.now.items faces.now }
+        ensures index { IsIndex self.new points.now.items faces.now }
+        ensures still { OnOk result (self.new.marks.moved ≡ []) }
+        ensures rest { self.old.marks.moved ≡ [] → self.new.marks.moved ≡ [] }
+        ensures built { OnOk result (self.new.built.value.items ≡ points.now.items) }
+        ensures memory { OnErr result (self.new.built.value.items ≡ self.old.built.value.items) }
+    {
+        self.fit_boxes(alloc, points, faces)?;
+        let keys = order_joined(rt, alloc, &self.boxes)?;
+        self.tree = tree_joined(rt, alloc, keys, &self.boxes)?;
+        self.marks.clear();
+        self.built = Snapshot::of(points);
+        Ok(())
+    }
+}
