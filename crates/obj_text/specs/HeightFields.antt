@@ -4,11 +4,11 @@ use Rattle.std.specs.List.{flat_map, range_with_len}
 use Rattle.fixed_box.specs.declared.shapes.Point.{Point}
 use Rattle.obj_text.specs.Meshes.{MeshLists}
 use Rattle.obj_text.specs.declared.face.Face.{Face}
-use Rattle.obj_text.specs.declared.height_field.TheConstants.{SPACING, CORNER, HEIGHTS}
+use Rattle.obj_text.specs.declared.height_field.TheConstants.{FIELD_SPACING, FIELD_CORNER, HEIGHTS}
 
 -- the coordinate of a column along x, or of a row along y
 abbrev pub along : ℕ → ℤ
-along number = pos (SPACING * number) -ℤ CORNER
+along number = pos (FIELD_SPACING * number) -ℤ FIELD_CORNER
 
 -- the height of the vertex of a column and a row
 abbrev pub height_at : ℕ → ℕ → ℕ

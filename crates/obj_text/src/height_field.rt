@@ -12,11 +12,11 @@ use indexmap::IndexSet;
 use outside::Memory;
 use std::alloc::{AllocError, Global};
 
-/// Grid steps from one column to the next, and from one row to the next.
-const SPACING: u32 = 256;
+/// Grid steps from one column of a height field to the next, and from one row to the next.
+pub const FIELD_SPACING: u32 = 256;
 
-/// The first column and the first row stand at minus this.
-const CORNER: i32 = 65536;
+/// The first column and the first row of a height field stand at minus this.
+pub const FIELD_CORNER: i32 = 65536;
 
 /// Each height is below this.
 const HEIGHTS: u32 = 1024;
@@ -26,7 +26,7 @@ fn along(number: u32) -> i32
     requires { number ≤ MOST_GRID }
     ensures { result ≡ along number }
 {
-    (SPACING * number) as i32 - CORNER
+    (FIELD_SPACING * number) as i32 - FIELD_CORNER
 }
 
 fn height_at(column: u32, row: u32) -> u32

@@ -25,7 +25,7 @@ mod vertex_count;
 pub use decimals::{GREATEST, MOST_DIGITS, NumberFault, grid, whole};
 pub use face::Face;
 pub use fault::{MeshFault, Why};
-pub use height_field::grid_mesh;
+pub use height_field::{FIELD_CORNER, FIELD_SPACING, grid_mesh};
 pub use limits::{LEAST_GRID, MOST_BYTES, MOST_FACES, MOST_GRID, MOST_POINTS};
 pub use mesh::Mesh;
 pub use read::{read_mesh, read_mesh_joined};
