@@ -74,6 +74,8 @@ ROWS = [
      b"hit 1 1/2\noverlaps 2: 1 2\nwork 3\n", 0),
     ("an empty mesh", b"", 1, b"box 0 0 0 1 1 1\nseg 0 0 0 1 1 1\nnode 0\ngroups\nwork\n",
      b"overlaps 0\nmiss\nline 3: no such node\ngroups 0\nwork 0\n", 6),
+    ("nothing to move in an empty mesh", b"", 1, b"move 1 0 0 0\nrefit\nrebuild\n",
+     b"line 1: no such vertex\nrefitted\nrebuilt\n", 6),
     ("an empty script", T, 1, b"", b"", 0),
     ("references of all spellings, and a fan", FAN, 1, b"groups\nbox 2 6 0 2 6 0\nbox 4 0 0 4 0 0\n",
      b"groups 1: default 5\noverlaps 2: 4 5\noverlaps 4: 1 2 3 4\n", 0),
@@ -97,6 +99,14 @@ ROWS = [
      b"groups 2: Floor 2 Ramp 2\noverlaps 2: 1 2\nwork 5\nhit 3 7/16\nnode 0 0 3 1 0 0 0 416 256 80\n"
      b"node 2 2 3 2 256 0 0 416 256 80\n", 0),
     ("three triangles apart", APART, 1, b"node 1\nseg 301 1 -1 301 1 1\n", b"node 1 0 1 0 0 0 0 104 4 0\nmiss\n", 0),
+    ("a triangle that moves, is refitted and built anew", APART, 1,
+     b"node 1\nseg 301 1 -1 301 1 1\nmove 1 300 0 0\nmove 2 304 0 0\nmove 3 300 4 0\nseg 301 1 -1 301 1 1\n"
+     b"refit\nnode 1\nrebuild\nnode 1\nnode 0\n",
+     b"node 1 0 1 0 0 0 0 104 4 0\nmiss\nmoved 1\nmoved 2\nmoved 3\nhit 1 1/2\n"
+     b"refitted\nnode 1 0 1 0 100 0 0 304 4 0\nrebuilt\nnode 1 0 1 0 100 0 0 204 4 0\nnode 0 0 2 1 100 0 0 304 4 0\n", 0),
+    ("work stays through moves and builds", TWICE, 1,
+     b"box 4 4 0 9 9 0\nmove 1 -9 0 0\nwork\nrefit\nwork\nrebuild\nwork\nmove 1 9 9 9\nbox 9 9 9 9 9 9\nwork\n",
+     b"overlaps 2: 1 2\nmoved 1\nwork 3\nrefitted\nwork 3\nrebuilt\nwork 3\nmoved 1\noverlaps 2: 1 2\nwork 3\n", 0),
     ("lines that go on, and carriage returns", JOINED, 1, b"groups\nbox 4 4 0 9 9 0\nwork\n",
      b"groups 1: default 1\noverlaps 1: 1\nwork 1\n", 0),
     ("the reasons to refuse a line", T, 1,
@@ -105,6 +115,11 @@ ROWS = [
      b"line 1: unknown word\nline 2: wrong count of words\nline 3: not a number\nline 5: out of range\n"
      b"line 6: no such node\nline 7: number too long\nline 8: out of range\nline 9: line too long\n"
      b"line 10: unknown word\n", 6),
+    ("the reasons to refuse a move", T, 1,
+     b"move 4 0 0 0\nmove 0 0 0 0\nmove 1 131072 0 0\nmove 1 0 0\nmove x y 0 0\nmove 1 y 0 0\nmove 9 131072 0 0\n"
+     b"seg 1 1 -1 1 1 1\n",
+     b"line 1: no such vertex\nline 2: no such vertex\nline 3: out of range\nline 4: wrong count of words\n"
+     b"line 5: not a number\nline 6: not a number\nline 7: out of range\nhit 1 1/2\n", 6),
 ]
 
 GRID_VALUES = [     # word, steps to a unit, grid value
@@ -134,7 +149,8 @@ def tree_of_codes(codes):
         for bit in range(54):
             point[2 - bit % 3] |= (code >> bit & 1) << bit // 3
         points.append(tuple(coordinate - 131_072 for coordinate in point))
-    return oracle.Tree([(point, point) for point in points])
+    boxes = [(point, point) for point in points]
+    return oracle.Tree(boxes, boxes)
 
 
 def oracle_agrees_with_rows():
@@ -264,6 +280,9 @@ def script_over(mesh, unit, chance, queries):
         near = tuple(x + chance.randint(-reach, reach) for x in corner)
         out.append(line("box", chance.choice([[*corner, *corner], [*corner, *near], [*near, *corner], [*p, *q]]), unit))
         out.append("work\n")
+        if mesh.points and chance.random() < 0.3:
+            out.append(line(f"move {chance.randint(1, len(mesh.points))}", bring_in(chance.choice([p, near, corner])), unit))
+            out += [f"node {chance.randrange(max(triangles, 1))}\n", chance.choice(["", "refit\n", "rebuild\n"])]
         middle = mesh.faces and tuple(sum(mesh.points[c][k] for c in chance.choice(mesh.faces)) // 3 for k in range(3))
         through = bring_in(2 * a - b for a, b in zip(middle or corner, p))
         along = chance.randrange(3)
@@ -372,6 +391,8 @@ ODD_LINES = ["", "  ", "# box", "#", "frob", "Box 0 0 0 1 1 1", "box", "box 0 0 
              "seg 0 0 -131073 0 y 0", "seg 0 0 1234567890123456789012345 131072 0 0", "node", "node 0 0", "node -1", "node +1",
              "node 1.0", "node 00", "node 007", "node 99999999999", "node 1000000000000000000000000",
              "node 1234567890123456789012345", "node 0000000000000000000000000000001", "groups", "groups 1", "work", "work 0",
+             "move", "move 1 0 0", "move 0 0 0 0", "move 01 0 0 0", "move +1 0 0 0", "move 1 0 0 2048", "move 1 0 x 0", "move 1.0 0 0 0",
+             "move 99999999999 0 0 0", "move 1234567890123456789012345 x 0 0", "refit", "refit 1", "rebuild", "rebuild 0",
              "\tbox\v0 0 0\f1 1 1\r", "work\r", "box 0 0 0 0 0 0 # no comment here", "box +1 -.5e1 5. 0 0 0", "groups#", "w\u00f6rk",
              "\\", "work \\"]
 
@@ -395,10 +416,14 @@ def random_script(chance, mesh_text, unit):
                 p = tuple(reach if k == axis else x for k, x in enumerate(p))
             p, q = (tuple(min(max(x, -131_072), 131_071) for x in end) for end in (p, q))
             lines.append(" ".join(["seg"] + [spelled(chance, x, unit) for x in (*p, *q)]))
-        elif kind < 0.75:
+        elif kind < 0.72:
             lines.append(f"node {chance.randrange(len(mesh.faces) + 2 if mesh else 3)}")
-        elif kind < 0.85:
-            lines.append(chance.choice(["groups", "work"]))
+        elif kind < 0.82:
+            to = (min(max(x, -131_072), 131_071) for x in place())
+            lines.append(" ".join(["move", str(chance.randint(0, len(mesh.points) + 1 if mesh else 3))]
+                                  + [spelled(chance, x, unit) for x in to]))
+        elif kind < 0.9:
+            lines.append(chance.choice(["groups", "work", "refit", "refit", "rebuild"]))
         else:
             lines.append(chance.choice(ODD_LINES))
     if chance.random() < 0.1:

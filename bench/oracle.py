@@ -34,7 +34,8 @@ CAP = 2**40                     # what a number that is far too large counts as
 
 DONE, USAGE, MESH_REFUSED, READ_FAULT, WRITE_FAULT, MEMORY, LINES_REFUSED = range(7)
 
-WORDS = {b"box": 6, b"seg": 6, b"node": 1, b"groups": 0, b"work": 0}    # and how many words follow each
+# and how many words follow each
+WORDS = {b"box": 6, b"seg": 6, b"move": 4, b"refit": 0, b"rebuild": 0, b"node": 1, b"groups": 0, b"work": 0}
 
 sys.set_int_max_str_digits(0)
 
@@ -207,11 +208,12 @@ def morton_code(box):
 
 class Tree:
     """The binary tree over the triangles in order: a range is parted where the highest bit in which its codes differ
-    changes. Positions, from 0, are parted alike where all codes of a range are equal."""
+    changes. Positions, from 0, are parted alike where all codes of a range are equal. The order is that of the boxes at
+    the build; the nodes' boxes are round the boxes now."""
 
-    def __init__(self, boxes):
-        self.order = sorted(range(len(boxes)), key=lambda triangle: (morton_code(boxes[triangle]), triangle))
-        self.codes = [morton_code(boxes[triangle]) for triangle in self.order]
+    def __init__(self, built, boxes):
+        self.order = sorted(range(len(built)), key=lambda triangle: (morton_code(built[triangle]), triangle))
+        self.codes = [morton_code(built[triangle]) for triangle in self.order]
         self.boxes = boxes
         self.nodes = {}         # by number: first and last position, split, box
         self.above = {}         # by number: the number of the node above
@@ -276,14 +278,38 @@ def meeting(p, q, triangle):
 # ------------------------------------------------------------------------------------------------ the world
 
 class World:
-    """A mesh, its tree, and the work of the last box query."""
+    """A mesh, the points now, the boxes at the last build, and the work of the last box query."""
 
     def __init__(self, mesh):
-        self.mesh = mesh
-        self.triangles = [tuple(mesh.points[corner] for corner in corners) for corners in mesh.faces]
+        self.mesh, self.points, self.last_work = mesh, list(mesh.points), 0
+        self.look()
+        self.rebuild()
+
+    def look(self):
+        """Makes all triangles and boxes from the points now."""
+        self.triangles = [tuple(self.points[corner] for corner in corners) for corners in self.mesh.faces]
         self.boxes = [least_box(triangle) for triangle in self.triangles]
-        self.tree = Tree(self.boxes)
-        self.last_work = 0
+        self.tree_now = None
+
+    @property
+    def tree(self):
+        """The tree in the order of the last build, over the boxes now."""
+        self.tree_now = self.tree_now or Tree(self.built, self.boxes)
+        return self.tree_now
+
+    def move(self, vertex, to):
+        if not 1 <= vertex <= len(self.points):
+            raise Refused("no such vertex")
+        self.points[vertex - 1] = to
+        self.look()
+        return f"moved {vertex}"
+
+    def refit(self):
+        return "refitted"
+
+    def rebuild(self):
+        self.built, self.tree_now = self.boxes, None
+        return "rebuilt"
 
     def box(self, query):
         self.last_work = self.tree.work(query)
@@ -332,17 +358,17 @@ def answer(world, line, unit, words=WORDS):
         raise Refused("unknown word")
     if len(rest) != words[first]:
         raise Refused("wrong count of words")
-    if first == b"node":
-        return world.node(whole_value(rest[0]))
-    if first in (b"box", b"seg"):
-        steps = []
-        for word in rest:
-            steps.append(grid_value(word, unit))
-            if steps[-1] not in (REACH if first == b"box" else WORLD):
-                raise Refused("out of range")
-        p, q = tuple(steps[:3]), tuple(steps[3:])
-        return world.box(least_box([p, q])) if first == b"box" else world.seg(p, q)
-    return world.groups() if first == b"groups" else world.work()
+    numbers, coordinates = (rest[:1], rest[1:]) if first in (b"node", b"move") else ([], rest)
+    numbers = [whole_value(word) for word in numbers]
+    steps = []
+    for word in coordinates:
+        steps.append(grid_value(word, unit))
+        if steps[-1] not in (REACH if first == b"box" else WORLD):
+            raise Refused("out of range")
+    points = [tuple(steps[at:at + 3]) for at in range(0, len(steps), 3)]
+    if first == b"box":
+        points = [least_box(points)]
+    return getattr(world, first.decode())(*numbers, *points)
 
 
 def run(mesh_text, script, unit=UNIT, words=WORDS):

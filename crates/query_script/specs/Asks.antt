@@ -17,7 +17,7 @@ use Rattle.query_script.specs.declared.keywords.Keyword.TheVariants as keyword
 use Rattle.query_script.specs.declared.asks.Ask.{Ask}
 use Rattle.query_script.specs.declared.asks.Ask.TheVariants as ask
 use Rattle.query_script.specs.declared.faults.LineFault.{LineFault}
-use Rattle.query_script.specs.declared.faults.LineFault.TheVariants.{UnknownWord, WrongCount, NotANumber, NumberTooLong, OutOfRange, LineTooLong}
+use Rattle.query_script.specs.declared.faults.LineFault.TheVariants.{UnknownWord, WrongCount, NotANumber, NumberTooLong, OutOfRange, NoSuchVertex, NoSuchNode, LineTooLong}
 
 -- a step after a step; the fault is that of the first that fails
 abbrev pub onward : {A B : Type 0} → Result A LineFault → (A → Result B LineFault) → Result B LineFault
@@ -83,6 +83,11 @@ fields_ask unit keyword.Box words =
 fields_ask unit keyword.Seg words =
     onward (point_of unit bounds.World words) (λ p.
     onward (point_of unit bounds.World (drop 3 words)) (λ q. Ok (ask.Seg p q)))
+fields_ask unit keyword.Move words =
+    onward (number_of (first_of words)) (λ vertex.
+    onward (point_of unit bounds.World (drop 1 words)) (λ to. Ok (ask.Move vertex to)))
+fields_ask unit keyword.Refit words = Ok ask.Refit
+fields_ask unit keyword.Rebuild words = Ok ask.Rebuild
 fields_ask unit keyword.Node words = onward (number_of (first_of words)) (λ n. Ok (ask.NodeOf n))
 fields_ask unit keyword.Groups words = Ok ask.Groups
 fields_ask unit keyword.Work words = Ok ask.Work
@@ -91,6 +96,9 @@ fields_ask unit keyword.Work words = Ok ask.Work
 abbrev pub count_of : Keyword → ℕ
 count_of keyword.Box = 6
 count_of keyword.Seg = 6
+count_of keyword.Move = 4
+count_of keyword.Refit = 0
+count_of keyword.Rebuild = 0
 count_of keyword.Node = 1
 count_of keyword.Groups = 0
 count_of keyword.Work = 0
@@ -102,9 +110,12 @@ abbrev pub keyword_of : List ℕ → Option Keyword
 keyword_of word =
     if bytes_eq word (codes "box") then Some keyword.Box
     else (if bytes_eq word (codes "seg") then Some keyword.Seg
+    else (if bytes_eq word (codes "move") then Some keyword.Move
+    else (if bytes_eq word (codes "refit") then Some keyword.Refit
+    else (if bytes_eq word (codes "rebuild") then Some keyword.Rebuild
     else (if bytes_eq word (codes "node") then Some keyword.Node
     else (if bytes_eq word (codes "groups") then Some keyword.Groups
-    else (if bytes_eq word (codes "work") then Some keyword.Work else None))))
+    else (if bytes_eq word (codes "work") then Some keyword.Work else None)))))))
 
 -- what a keyword and the words behind it ask
 abbrev pub counted_ask : ℕ → Option Keyword → List (List ℕ) → Result Ask LineFault
@@ -137,11 +148,25 @@ abbrev pub IsWithin : Bounds → Point → Type 0
 IsWithin bounds.Reach p = ⊤
 IsWithin bounds.World p = InWorld p
 
--- the points of a segment are in the world
+-- the points of a segment are in the world, and so is the place that a vertex is moved to
 abbrev pub IsAskable : Ask → Type 0
 IsAskable ask.Nothing = ⊤
 IsAskable (ask.Overlap around) = ⊤
 IsAskable (ask.Seg p q) = InWorld p × InWorld q
+IsAskable (ask.Move vertex to) = InWorld to
+IsAskable ask.Refit = ⊤
+IsAskable ask.Rebuild = ⊤
 IsAskable (ask.NodeOf number) = ⊤
 IsAskable ask.Groups = ⊤
 IsAskable ask.Work = ⊤
+
+-- a line alone may have the fault; the others are a world's
+abbrev pub IsOfLine : LineFault → Type 0
+IsOfLine UnknownWord = ⊤
+IsOfLine WrongCount = ⊤
+IsOfLine NotANumber = ⊤
+IsOfLine NumberTooLong = ⊤
+IsOfLine OutOfRange = ⊤
+IsOfLine NoSuchVertex = ⊥
+IsOfLine NoSuchNode = ⊥
+IsOfLine LineTooLong = ⊤

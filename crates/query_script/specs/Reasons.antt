@@ -12,6 +12,7 @@ fault_text script.WrongCount = codes "wrong count of words"
 fault_text script.NotANumber = codes "not a number"
 fault_text script.NumberTooLong = codes "number too long"
 fault_text script.OutOfRange = codes "out of range"
+fault_text script.NoSuchVertex = codes "no such vertex"
 fault_text script.NoSuchNode = codes "no such node"
 fault_text script.LineTooLong = codes "line too long"
 

@@ -8,7 +8,7 @@ use Rattle.segment_hit.specs.HitOf.{Ratio}
 use Rattle.query_script.specs.declared.faults.LineFault.{LineFault}
 use Rattle.query_script.specs.declared.groups.GroupCount.{GroupCount}
 use Rattle.query_script.specs.declared.replies.Reply.{Reply}
-use Rattle.query_script.specs.declared.replies.Reply.TheVariants.{Nothing, Overlaps, Hit, Miss, NodeIs, GroupsAre, WorkIs, Refused}
+use Rattle.query_script.specs.declared.replies.Reply.TheVariants.{Nothing, Overlaps, Hit, Miss, Moved, Refitted, Rebuilt, NodeIs, GroupsAre, WorkIs, Refused}
 use Rattle.query_script.specs.Reasons.{fault_text}
 
 -- each word behind a space
@@ -65,6 +65,9 @@ reply_text line Nothing = []
 reply_text line (Overlaps ns) = line_of (codes "overlaps") (counted_words ns)
 reply_text line (Hit tri at) = line_of (codes "hit") (decimal tri ∷ ratio_word at ∷ [])
 reply_text line Miss = codes "miss\n"
+reply_text line (Moved vertex) = line_of (codes "moved") (decimal vertex ∷ [])
+reply_text line Refitted = codes "refitted\n"
+reply_text line Rebuilt = codes "rebuilt\n"
 reply_text line (NodeIs number node) = line_of (codes "node") (decimal number ∷ node_words node)
 reply_text line (GroupsAre groups) = line_of (codes "groups") (group_words groups)
 reply_text line (WorkIs work) = line_of (codes "work") (decimal work ∷ [])
@@ -77,6 +80,9 @@ is_refused Nothing = false
 is_refused (Overlaps ns) = false
 is_refused (Hit tri at) = false
 is_refused Miss = false
+is_refused (Moved vertex) = false
+is_refused Refitted = false
+is_refused Rebuilt = false
 is_refused (NodeIs number node) = false
 is_refused (GroupsAre groups) = false
 is_refused (WorkIs work) = false

@@ -11,6 +11,12 @@ pub enum Ask {
     Overlap { around: Box3 },
     /// Which triangle the segment from `p` to `q` strikes first. Both points are in the world.
     Seg { p: Point, q: Point },
+    /// That the vertex of this number stands at `to`, which is in the world; numbers above 2^40 stand for 2^40.
+    Move { vertex: u64, to: Point },
+    /// That the boxes are fitted to the points now.
+    Refit,
+    /// That the tree is built anew over the points now.
+    Rebuild,
     /// The inner node of this number; numbers above 2^40 stand for 2^40.
     NodeOf { number: u64 },
     /// The names of the mesh's groups, each with its count of triangles.

@@ -13,6 +13,8 @@ pub enum LineFault {
     NumberTooLong,
     /// A coordinate is too far out.
     OutOfRange,
+    /// The mesh has no vertex of that number. Only the world refuses so.
+    NoSuchVertex,
     /// The tree has no inner node of that number. Only the world refuses so.
     NoSuchNode,
     /// The line has more than 1,000 bytes.

@@ -7,6 +7,12 @@ pub enum Keyword {
     Box,
     /// `seg`, and the coordinates of two points.
     Seg,
+    /// `move`, the number of a vertex and the coordinates of a point.
+    Move,
+    /// `refit`, and nothing more.
+    Refit,
+    /// `rebuild`, and nothing more.
+    Rebuild,
     /// `node`, and a number.
     Node,
     /// `groups`, and nothing more.

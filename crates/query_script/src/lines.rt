@@ -1,8 +1,7 @@
 //! A line of a script, read: one function for each step of the definition.
 
-ghost use Rattle.std.specs.Prelude.{◌≡◌, ◌≢◌, Err, OnOk, IfOk, drop};
-ghost use Rattle.query_script.specs.Asks.{ask_of, counted_ask, fields_ask, point_of, keyword_of, count_of, starts_comment, IsAskable, IsWithin};
-ghost use Rattle.query_script.specs.declared.faults.LineFault.TheVariants.{NoSuchNode};
+ghost use Rattle.std.specs.Prelude.{◌≡◌, OnOk, IfOk, IfErr, drop};
+ghost use Rattle.query_script.specs.Asks.{ask_of, counted_ask, fields_ask, point_of, keyword_of, count_of, starts_comment, IsAskable, IsWithin, IsOfLine};
 
 use crate::asks::Ask;
 use crate::bounds::Bounds;
@@ -20,18 +19,28 @@ use text_words::Words;
 ///
 /// - the line has at most 1,000 bytes, else `LineTooLong`;
 /// - a line without words, or whose first word begins with `#`, asks nothing;
-/// - the first word is `box`, `seg`, `node`, `groups` or `work`, else `UnknownWord`;
-/// - six, six, one, no or no words follow it, else `WrongCount`;
-/// - each of them from left to right: a coordinate behind `box` or `seg` is a decimal (see `decimals::grid`) and a number
-///   behind `node` is digits alone, else `NotANumber`; either has at most 24 digits from the first that is not `0` on, a
-///   decimal's exponent aside, else `NumberTooLong`; a coordinate behind `box` is from -2147483647 to 2147483647 grid
-///   steps and one behind `seg` is in the world, else `OutOfRange`.
+/// - the first word is one of the table's, else `UnknownWord`;
+/// - as many words follow it as stand there, else `WrongCount`;
+/// - each of them from left to right: a coordinate is a decimal (see `decimals::grid`) and a number is digits alone, else
+///   `NotANumber`; either has at most 24 digits from the first that is not `0` on, a decimal's exponent aside, else
+///   `NumberTooLong`; a coordinate behind `box` is from -2147483647 to 2147483647 grid steps and one behind `seg` or
+///   `move` is in the world, else `OutOfRange`.
+///
+/// | line | asks |
+/// |---|---|
+/// | `box x0 y0 z0 x1 y1 z1` | which boxes meet the one between two corners |
+/// | `seg px py pz qx qy qz` | which triangle a segment strikes first |
+/// | `move v x y z` | that vertex number `v` stands there |
+/// | `refit`, `rebuild` | that the boxes are fitted, that the tree is built anew |
+/// | `node i` | node number `i` |
+/// | `groups`, `work` | the groups, the last box query's work |
 ///
 /// The two corners of a `box` may stand in any order. It takes no memory.
 pub fn read_line(line: &[u8], unit: u32) -> Result<Ask, LineFault>
     ensures ask { result ≡ ask_of unit line.now }
     ensures askable { IfOk result IsAskable }
-    ensures without_world { result ≢ Err NoSuchNode }
+    // The others are refusals of a world.
+    ensures faults { IfErr result IsOfLine }
 {
     if LINE_MOST < line.len() {
         return Err(LineFault::LineTooLong);
@@ -64,6 +73,15 @@ fn keyword(word: &[u8]) -> Option<Keyword>
     if word == b"seg".as_slice() {
         return Some(Keyword::Seg);
     }
+    if word == b"move".as_slice() {
+        return Some(Keyword::Move);
+    }
+    if word == b"refit".as_slice() {
+        return Some(Keyword::Refit);
+    }
+    if word == b"rebuild".as_slice() {
+        return Some(Keyword::Rebuild);
+    }
     if word == b"node".as_slice() {
         return Some(Keyword::Node);
     }
@@ -82,6 +100,9 @@ fn count_of(keyword: Keyword) -> usize
     match keyword {
         Keyword::Box => 6,
         Keyword::Seg => 6,
+        Keyword::Move => 4,
+        Keyword::Refit => 0,
+        Keyword::Rebuild => 0,
         Keyword::Node => 1,
         Keyword::Groups => 0,
         Keyword::Work => 0,
@@ -118,6 +139,13 @@ fn fields(keyword: Keyword, words: &mut Words, unit: u32) -> Result<Ask, LineFau
             let q = point(words, unit, Bounds::World)?;
             Ok(Ask::Seg { p, q })
         }
+        Keyword::Move => {
+            let vertex = number(words)?;
+            let to = point(words, unit, Bounds::World)?;
+            Ok(Ask::Move { vertex, to })
+        }
+        Keyword::Refit => Ok(Ask::Refit),
+        Keyword::Rebuild => Ok(Ask::Rebuild),
         Keyword::Node => {
             let number = number(words)?;
             Ok(Ask::NodeOf { number })

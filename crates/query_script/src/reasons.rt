@@ -16,6 +16,7 @@ pub fn fault_text(fault: LineFault) -> &'static str
         LineFault::NotANumber => "not a number",
         LineFault::NumberTooLong => "number too long",
         LineFault::OutOfRange => "out of range",
+        LineFault::NoSuchVertex => "no such vertex",
         LineFault::NoSuchNode => "no such node",
         LineFault::LineTooLong => "line too long",
     }

@@ -17,6 +17,12 @@ pub enum Reply {
     Hit { tri: u32, at: HitFraction },
     /// No triangle is struck.
     Miss,
+    /// The vertex of that number was moved.
+    Moved(u64),
+    /// The boxes are fitted to the points now.
+    Refitted,
+    /// The tree is built over the points now.
+    Rebuilt,
     /// The inner node of that number.
     NodeIs { number: u64, node: Node },
     /// The names of the mesh's groups in their order, each with its count of triangles.

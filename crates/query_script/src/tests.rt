@@ -235,12 +235,13 @@ fn each_reply_is_one_line_of_words(rt: HostRuntime) -> Result<(), Fail> {
 
 #[test]
 fn a_refusal_names_its_line_and_reason(rt: HostRuntime) {
-    let rows: [(LineFault, &str); 7] = [
+    let rows: [(LineFault, &str); 8] = [
         (LineFault::UnknownWord, "line 12: unknown word\n"),
         (LineFault::WrongCount, "line 12: wrong count of words\n"),
         (LineFault::NotANumber, "line 12: not a number\n"),
         (LineFault::NumberTooLong, "line 12: number too long\n"),
         (LineFault::OutOfRange, "line 12: out of range\n"),
+        (LineFault::NoSuchVertex, "line 12: no such vertex\n"),
         (LineFault::NoSuchNode, "line 12: no such node\n"),
         (LineFault::LineTooLong, "line 12: line too long\n"),
     ];

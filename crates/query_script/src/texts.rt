@@ -20,6 +20,7 @@ use std::alloc::{AllocError, Global};
 ///
 /// - `Overlaps`: `overlaps K: n1 n2 n3` with the count and the numbers, or `overlaps 0`;
 /// - `Hit`: `hit T N/D` with the triangle's number and the fraction; `Miss`: `miss`;
+/// - `Moved`: `moved` and the vertex's number; `Refitted`: `refitted`; `Rebuilt`: `rebuilt`;
 /// - `NodeIs`: `node`, the number, first and last position, split, and the coordinates of the box's corners;
 /// - `GroupsAre`: `groups K: name1 count1 name2 count2` with the count of groups, or `groups 0`;
 /// - `WorkIs`: `work` and the count;
@@ -42,6 +43,9 @@ fn add_reply(text: &mut Vec<u8>, line: u32, reply: &Reply) -> Result<(), AllocEr
         Reply::Overlaps(numbers) => add_overlaps(text, numbers.items()),
         Reply::Hit { tri, at } => add_hit(text, *tri, at),
         Reply::Miss => text.extend_from_slice(b"miss\n"),
+        Reply::Moved(vertex) => add_moved(text, *vertex),
+        Reply::Refitted => text.extend_from_slice(b"refitted\n"),
+        Reply::Rebuilt => text.extend_from_slice(b"rebuilt\n"),
         Reply::NodeIs { number, node } => add_node(text, *number, node),
         Reply::GroupsAre(groups) => add_groups(text, groups.items()),
         Reply::WorkIs(work) => add_work(text, *work),
@@ -89,6 +93,14 @@ fn add_fraction(text: &mut Vec<u8>, frac: &Frac) -> Result<(), AllocError>
     add_number(text, frac.num)?;
     text.extend_from_slice(b"/")?;
     add_digits(text, frac.den)
+}
+
+fn add_moved(text: &mut Vec<u8>, vertex: u64) -> Result<(), AllocError>
+    ensures { OnOk result (text.new.items ≡ text.old.items ++ line_of (codes "moved") (decimal vertex ∷ [])) }
+{
+    text.extend_from_slice(b"moved")?;
+    add_number(text, vertex)?;
+    text.extend_from_slice(b"\n")
 }
 
 fn add_node(text: &mut Vec<u8>, number: u64, node: &Node) -> Result<(), AllocError>

@@ -1,5 +1,7 @@
 -- The answers to the lines of a text, one after another, and which lines of it are answered.
-use Rattle.std.specs.Prelude.{ℕ, ◌+◌, Bool, List, [], ◌∷◌, ◌++◌, nat_lt, take, length, if◌then◌else◌}
+use Rattle.std.specs.Prelude.{◌≡◌, ℕ, ◌+◌, Bool, List, [], ◌∷◌, ◌++◌, nat_lt, take, length, if◌then◌else◌, Result, IfOk, OnOk, Vec}
+use Rattle.std.specs.Borrow.{Bor, MutBor}
+use Rattle.std.specs.declared.alloc.Global.{Global}
 use Rattle.text_words.specs.Lines.{cut_lines, lines_of, ended_lines}
 
 -- the answers to lines that are numbered from one on, each in the state that the lines before left
@@ -24,3 +26,8 @@ text_left text after state number unfinished bytes = answers_from text after sta
 -- the state that a text leaves
 abbrev pub state_left : {A : Type 0} → (A → List ℕ → A) → A → Bool → List ℕ → A
 state_left after state unfinished bytes = state_after after state (cut_lines unfinished bytes)
+
+-- each call of a function, unless it fails, answers a line by that text and leaves that state
+abbrev pub AnswersBy : {A E : Type 0} → (A → ℕ → List ℕ → List ℕ) → (A → List ℕ → A) → (MutBor A → ℕ → Bor (List ℕ) → Result (Vec ℕ Global) E → MutBor A → Type 0) → Type 0
+AnswersBy text after gives = (old : _) (number : ℕ) (line : _) (result : _) (new : _) → gives old number line result new
+    → IfOk result (λ answer. answer.items ≡ text old.now number line.now) × OnOk result (new.now ≡ after old.now line.now)

@@ -1,22 +1,16 @@
 //! Who answers the lines of a script. What the answer to a line is and what state it leaves are ghost members, so the
 //! loop that moves bytes is proved once, for every script language.
+//!
+//! The function that answers a line is no method: it is handed to the loop as a value, so what it does may start threads.
 
-ghost use Rattle.std.specs.Prelude.{◌≡◌, ℕ, List, IfOk, OnOk};
+ghost use Rattle.std.specs.Prelude.{ℕ, List};
 
-use outside::Memory;
-use std::alloc::Global;
-
-/// Answers lines, one after another, each by a text and by the state that it leaves.
+/// The state in which lines are answered, one after another, each by a text and by the state that it leaves.
 pub trait Answerer {
     // The answer in a state to the line of this number.
     ghost text: { Self → ℕ → List ℕ → List ℕ };
     // The state that the answer to a line leaves.
     ghost after: { Self → List ℕ → Self };
-
-    /// Answers the line, which has no line feed. Lines are numbered from 1.
-    fn answer(&mut self, alloc: Global, number: u32, line: &[u8]) -> Result<Vec<u8>, Memory>
-        ensures text { IfOk result (λ answer. answer.items ≡ text self.old number line.now) }
-        ensures after { OnOk result (self.new ≡ after self.old line.now) };
 }
 
 /// How the script of a run that went to its end came to that end.

@@ -5,12 +5,12 @@ ghost use Rattle.std.specs.Prelude.{◌≡◌, ◌≤◌, ◌<◌, ◌+◌, ◌^
 ghost use Rattle.std.specs.Io.KnownBytes.{Appends};
 ghost use Rattle.outside.specs.Causes.{Rose};
 ghost use Rattle.streams.specs.Owed.{AppendsFront};
-ghost use Rattle.streams.specs.Answers.{answers_from, state_after, lines_within, text_left};
+ghost use Rattle.streams.specs.Answers.{answers_from, state_after, lines_within, text_left, AnswersBy};
 ghost use Rattle.streams.specs.Taken.{Taken, Loses, LosesAtMost, IsPrompt};
 
 use crate::session::Session;
 use crate::{Answerer, Ended, PIECE, Stop};
-use outside::{Sink, Source};
+use outside::{Memory, Sink, Source};
 use std::alloc::Global;
 
 /// What is left of a script that was answered: who answered it, and how it ended.
@@ -21,15 +21,24 @@ pub struct Answered<A: Answerer + Drop> {
 }
 
 /// Answers the lines of a script of at most `limit` bytes, an unfinished last line among them. Of a longer script it
-/// answers the lines that ended within the first `limit` bytes, and takes one byte more.
-pub fn answer_lines<A: Answerer + Drop, S: Source, K: Sink>(
+/// answers the lines that ended within the first `limit` bytes, and takes one byte more. `answer` answers one line by the
+/// state, the line's number, counted from 1, and the line without its line feed.
+pub fn answer_lines<
+    A: Answerer + Drop,
+    F: Fn(&mut A, u32, &[u8]) -> Result<Vec<u8>, Memory>,
+    S: Source,
+    K: Sink,
+>(
     alloc: Global,
     answerer: A,
+    answer: &F,
     script: &mut S,
     out: &mut K,
     limit: usize,
 ) -> Result<Answered<A>, Stop>
-    requires { limit + 2 < 2 ^ 32 }
+    requires room { limit + 2 < 2 ^ 32 }
+    requires callable { F.IsAlwaysCallable answer.now }
+    requires answers { AnswersBy A.text A.after (F.post answer.now) }
 
     // All answers were written, and the answerer is left as they left it.
     ensures text { IfSome (S.left script.old) (λ bytes. OnOk result (
@@ -65,14 +74,14 @@ pub fn answer_lines<A: Answerer + Drop, S: Source, K: Sink>(
             return Err(Stop::Read);
         };
         if count == 0 {
-            let answerer = session.finish(alloc, out)?;
+            let answerer = session.finish(answer, out)?;
             return Ok(Answered {
                 answerer,
                 ended: Ended::Whole,
             });
         }
         let within = count.min(limit - taken);
-        session.feed(alloc, &piece[..within], out)?;
+        session.feed(answer, &piece[..within], out)?;
         taken += count;
         if limit < taken {
             let Session { answerer, .. } = session;

@@ -6,10 +6,10 @@ ghost use Rattle.std.specs.Io.KnownBytes.{Appends};
 ghost use Rattle.outside.specs.Causes.{Rose};
 ghost use Rattle.text_words.specs.Lines.{IsOneLine};
 ghost use Rattle.streams.specs.Owed.{Owes, AppendsFront};
-ghost use Rattle.streams.specs.Answers.{text_left, state_left};
+ghost use Rattle.streams.specs.Answers.{text_left, state_left, AnswersBy};
 
 use crate::{Answerer, Stop, write_all};
-use outside::Sink;
+use outside::{Memory, Sink};
 use std::alloc::Global;
 use text_words::first_line;
 
@@ -37,8 +37,14 @@ impl<A: Answerer + Drop> Session<A> {
     }
 
     /// Answers the line, which has ended.
-    fn answer_line<K: Sink>(&mut self, alloc: Global, out: &mut K) -> Result<(), Stop>
-        requires { self.old.number + 1 < 2 ^ 32 }
+    fn answer_line<F: Fn(&mut A, u32, &[u8]) -> Result<Vec<u8>, Memory>, K: Sink>(
+        &mut self,
+        answer: &F,
+        out: &mut K,
+    ) -> Result<(), Stop>
+        requires callable { F.IsAlwaysCallable answer.now }
+        requires answers { AnswersBy A.text A.after (F.post answer.now) }
+        requires room { self.old.number + 1 < 2 ^ 32 }
         ensures text { OnOk result (Appends (K.written out.old) (K.written out.new) (A.text self.old.answerer self.old.number self.old.line.items)) }
         ensures state { OnOk result (self.new.answerer ≡ A.after self.old.answerer self.old.line.items) }
         ensures line { OnOk result (self.new.line.items ≡ []) }
@@ -49,7 +55,7 @@ impl<A: Answerer + Drop> Session<A> {
         ensures later { K.faults out.old ≤ K.faults out.new }
         ensures kept { ¬ IsErrOf result Stop.Write → K.faults out.new ≡ K.faults out.old }
     {
-        let Ok(text) = self.answerer.answer(alloc, self.number, &self.line) else {
+        let Ok(text) = answer(&mut self.answerer, self.number, &self.line) else {
             return Err(Stop::Memory);
         };
         let Ok(()) = write_all(out, &text) else {
@@ -61,8 +67,15 @@ impl<A: Answerer + Drop> Session<A> {
     }
 
     /// Takes the next bytes of the script, and answers each line that has ended.
-    pub fn feed<K: Sink>(&mut self, alloc: Global, piece: &[u8], out: &mut K) -> Result<(), Stop>
-        requires { self.old.number + length piece.now < 2 ^ 32 }
+    pub fn feed<F: Fn(&mut A, u32, &[u8]) -> Result<Vec<u8>, Memory>, K: Sink>(
+        &mut self,
+        answer: &F,
+        piece: &[u8],
+        out: &mut K,
+    ) -> Result<(), Stop>
+        requires callable { F.IsAlwaysCallable answer.now }
+        requires answers { AnswersBy A.text A.after (F.post answer.now) }
+        requires room { self.old.number + length piece.now < 2 ^ 32 }
         ensures owes { (unfinished : Bool) (more : List ℕ) → OnOk result (Owes (K.written out.old) (K.written out.new)
             (text_left A.text A.after self.old.answerer self.old.number unfinished (self.old.line.items ++ (piece.now ++ more)))
             (text_left A.text A.after self.new.answerer self.new.number unfinished (self.new.line.items ++ more))) }
@@ -82,7 +95,7 @@ impl<A: Answerer + Drop> Session<A> {
             let Ok(()) = self.line.extend_from_slice(front) else {
                 return Err(Stop::Memory);
             };
-            self.answer_line(alloc, out)?;
+            self.answer_line(answer, out)?;
             rest = back;
         }
         let Ok(()) = self.line.extend_from_slice(rest) else {
@@ -92,8 +105,14 @@ impl<A: Answerer + Drop> Session<A> {
     }
 
     /// Answers an unfinished last line, and gives the answerer back.
-    pub fn finish<K: Sink>(mut self, alloc: Global, out: &mut K) -> Result<A, Stop>
-        requires { self.number + 1 < 2 ^ 32 }
+    pub fn finish<F: Fn(&mut A, u32, &[u8]) -> Result<Vec<u8>, Memory>, K: Sink>(
+        mut self,
+        answer: &F,
+        out: &mut K,
+    ) -> Result<A, Stop>
+        requires callable { F.IsAlwaysCallable answer.now }
+        requires answers { AnswersBy A.text A.after (F.post answer.now) }
+        requires room { self.number + 1 < 2 ^ 32 }
         ensures text { OnOk result (Appends (K.written out.old) (K.written out.new) (text_left A.text A.after self.answerer self.number true self.line.items)) }
         ensures state { IfOk result (λ answerer. answerer ≡ state_left A.after self.answerer true self.line.items) }
         ensures front { OnErr result (AppendsFront (K.written out.old) (K.written out.new) (text_left A.text A.after self.answerer self.number true self.line.items)) }
@@ -106,7 +125,7 @@ impl<A: Answerer + Drop> Session<A> {
             let Session { answerer, .. } = self;
             return Ok(answerer);
         }
-        self.answer_line(alloc, out)?;
+        self.answer_line(answer, out)?;
         let Session { answerer, .. } = self;
         Ok(answerer)
     }

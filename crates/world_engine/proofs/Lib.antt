@@ -7,3 +7,4 @@ pub mod WorldBoxes
 pub mod GroupCounts
 pub mod OpenedWords
 mod Examples
+pub mod NodeCounts

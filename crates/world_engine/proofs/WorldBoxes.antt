@@ -8,7 +8,7 @@ use Rattle.fixed_box.specs.Extent.{tri_box}
 use Rattle.fixed_box.specs.World.{InWorld, BoxInWorld, TriInWorld}
 use Rattle.fixed_box.proofs.Extents.{tri_box-is_least}
 use Rattle.fixed_box.proofs.InTheWorld.{box_of_tri_in_world}
-use Rattle.obj_text.specs.Meshes.{MeshLists, IsFaceOf, IsMesh}
+use Rattle.obj_text.specs.Meshes.{IsFaceOf}
 use Rattle.obj_text.specs.declared.face.Face.{Face}
 use Rattle.traversal.specs.Nearest.{no_tri, triangle_of}
 use Rattle.world_engine.specs.Worlds.{point_at, tri_of, tris_at}
@@ -41,13 +41,12 @@ boxes_in_world tris h =
     (All-weaker TriInWorld (λ t. BoxInWorld (tri_box t))
     (λ t is. box_of_tri_in_world t (tri_box t) is (tri_box-is_least t)) tris h)
 
--- those of lists that are a mesh's are too
-pub tris_of_mesh_in_world : (mesh : MeshLists) (points : List Point) (faces : List Face) → points ≡ mesh.points →
-    faces ≡ mesh.faces → IsMesh mesh → All TriInWorld (tris_at points faces)
-tris_of_mesh_in_world mesh points faces same_points same_faces is =
+-- those of equal lists are too
+pub tris_of_lists_in_world : (own points : List Point) (named faces : List Face) → points ≡ own → faces ≡ named →
+    All InWorld own → All (IsFaceOf (length own)) named → All TriInWorld (tris_at points faces)
+tris_of_lists_in_world own points named faces same_points same_faces h is =
     subst (λ ps. All TriInWorld (tris_at ps faces)) (sym same_points)
-    (subst (λ fs. All TriInWorld (tris_at mesh.points fs)) (sym same_faces)
-    (tris_in_world mesh.points mesh.faces is.in_world is.named))
+    (subst (λ fs. All TriInWorld (tris_at own fs)) (sym same_faces) (tris_in_world own named h is))
 
 -- the triangle of a number is that of the face at its place
 pub face_of_number : (points : List Point) (faces : List Face) (n : ℕ) (none : Face) → 0 < n →

@@ -1,5 +1,5 @@
 -- The world: what a state is, what an ask is answered in it, and the state after it.
-use Rattle.std.specs.Prelude.{ℕ, ◌+◌, Bool, true, false, List, [], ◌∷◌, map, length, count_by, ◌==◌, nat_lt, slice_index_or, if◌then◌else◌, pos, Option, None, Some, Result, Ok, Err}
+use Rattle.std.specs.Prelude.{ℕ, ◌+◌, ◌-◌, Bool, true, false, not, ◌&&◌, ◌||◌, List, [], ◌∷◌, map, length, count_by, ◌==◌, nat_lt, nat_le, slice_index_or, slice_set, if◌then◌else◌, pos, Option, None, Some, Result, Ok, Err}
 use Rattle.fixed_box.specs.Extent.{tri_box}
 use Rattle.fixed_box.specs.declared.shapes.Point.{Point}
 use Rattle.fixed_box.specs.declared.shapes.Box3.{Box3}
@@ -16,21 +16,23 @@ use Rattle.traversal.specs.NearestOf.{NearestHit, nearest_of}
 use Rattle.query_script.specs.declared.asks.Ask.{Ask}
 use Rattle.query_script.specs.declared.asks.Ask.TheVariants as ask
 use Rattle.query_script.specs.declared.faults.LineFault.{LineFault}
-use Rattle.query_script.specs.declared.faults.LineFault.TheVariants.{NoSuchNode}
+use Rattle.query_script.specs.declared.faults.LineFault.TheVariants.{NoSuchVertex, NoSuchNode}
 use Rattle.query_script.specs.declared.groups.GroupCount.{GroupCount}
 use Rattle.query_script.specs.declared.replies.Reply.{Reply}
-use Rattle.query_script.specs.declared.replies.Reply.TheVariants.{Nothing, Overlaps, Hit, Miss, NodeIs, GroupsAre, WorkIs, Refused}
+use Rattle.query_script.specs.declared.replies.Reply.TheVariants.{Nothing, Overlaps, Hit, Miss, Moved, Refitted, Rebuilt, NodeIs, GroupsAre, WorkIs, Refused}
 
--- a state of the world: the mesh that opened it, the points now, those of the last build, and the last box query's work
+-- a state of the world: the mesh that opened it, the points now, those of the last build, and the last box query's work;
+-- and whether no vertex was moved since it was opened, refitted or built anew
 pub record WorldState : Type 0 where
   pub mesh : MeshLists
   pub now : List Point
   pub built : List Point
   pub work : ℕ
+  pub settled : Bool
 
 -- the world that a mesh opens
 abbrev pub world_of : MeshLists → WorldState
-world_of mesh = record { mesh = mesh; now = mesh.points; built = mesh.points; work = 0 }
+world_of mesh = record { mesh = mesh; now = mesh.points; built = mesh.points; work = 0; settled = true }
 
 -- ---- the triangles and their tree
 
@@ -83,6 +85,19 @@ groups_of mesh = groups_from 0 mesh.names mesh.group_of
 
 -- ---- asks
 
+-- the number is a vertex's, of so many
+abbrev pub is_vertex : ℕ → ℕ → Bool
+is_vertex count vertex = nat_lt 0 vertex && nat_le vertex count
+
+-- word that the vertex was moved, or that there is none of that number
+abbrev pub move_reply : ℕ → ℕ → Reply
+move_reply count vertex = if is_vertex count vertex then Moved vertex else Refused NoSuchVertex
+
+-- the world with the vertex of that number there, if there is one
+abbrev pub moved : WorldState → ℕ → Point → WorldState
+moved world vertex to =
+    if is_vertex (length world.now) vertex then record world { now = slice_set world.now (vertex - 1) to; settled = false } else world
+
 -- the node of that number, or that there is none
 abbrev pub node_reply : List Node → ℕ → Reply
 node_reply nodes number = if nat_lt number (length nodes) then NodeIs number (node_at nodes number) else Refused NoSuchNode
@@ -97,27 +112,36 @@ abbrev pub reply_to : WorldState → Ask → Reply
 reply_to world ask.Nothing = Nothing
 reply_to world (ask.Overlap around) = Overlaps (overlaps_of (boxes_now world) around)
 reply_to world (ask.Seg p q) = hit_reply (nearest_of (tris_now world) p q)
+reply_to world (ask.Move vertex to) = move_reply (length world.now) vertex
+reply_to world ask.Refit = Refitted
+reply_to world ask.Rebuild = Rebuilt
 reply_to world (ask.NodeOf number) = node_reply (table world) number
 reply_to world ask.Groups = GroupsAre (groups_of world.mesh)
 reply_to world ask.Work = WorkIs world.work
 
--- the state after an ask: a box query leaves its work behind
+-- the state after an ask: a box query leaves its work behind, a moved vertex its place, and a build its points
 abbrev pub state_after : WorldState → Ask → WorldState
 state_after world ask.Nothing = world
 state_after world (ask.Overlap around) = record world { work = work_of (built_order world) (boxes_now world) around }
 state_after world (ask.Seg p q) = world
+state_after world (ask.Move vertex to) = moved world vertex to
+state_after world ask.Refit = record world { settled = true }
+state_after world ask.Rebuild = record world { built = world.now; settled = true }
 state_after world (ask.NodeOf number) = world
 state_after world ask.Groups = world
 state_after world ask.Work = world
 
 -- the ask takes no memory
-abbrev pub is_free : Ask → Bool
-is_free ask.Nothing = true
-is_free (ask.Overlap around) = false
-is_free (ask.Seg p q) = true
-is_free (ask.NodeOf number) = true
-is_free ask.Groups = false
-is_free ask.Work = true
+abbrev pub is_free : WorldState → Ask → Bool
+is_free world ask.Nothing = true
+is_free world (ask.Overlap around) = false
+is_free world (ask.Seg p q) = world.settled
+is_free world (ask.Move vertex to) = true
+is_free world ask.Refit = false
+is_free world ask.Rebuild = false
+is_free world (ask.NodeOf number) = world.settled || not (nat_lt number (length (table world)))
+is_free world ask.Groups = false
+is_free world ask.Work = true
 
 -- ---- lines
 

@@ -7,6 +7,7 @@
 mod corners;
 mod desk;
 mod grouping;
+mod index;
 mod limits;
 mod refusals;
 mod runs;

@@ -18,7 +18,7 @@ use crate::world::World;
 use command_line::{MOST_WORKERS, Plan};
 use fixed_box::UNIT_MAX;
 use obj_text::{MOST_BYTES, Mesh, MeshFault, Why, read_mesh_joined};
-use outside::{Gate, Sink, Source};
+use outside::{Gate, Memory, Sink, Source};
 use std::alloc::Global;
 use std::thread::Threads;
 use streams::{Ended, Stop, answer_lines, write_all};
@@ -48,7 +48,9 @@ fn status_of(refused: bool) -> Status
 }
 
 /// Answers the script of a world.
-fn answer_script<S: Source, K: Sink>(
+fn answer_script<R: Threads + Sync, S: Source, K: Sink, G: Gate>(
+    rt: &R,
+    gate: &G,
     alloc: Global,
     world: World,
     unit: u32,
@@ -75,7 +77,10 @@ fn answer_script<S: Source, K: Sink>(
         unit,
         refused: false,
     };
-    match answer_lines(alloc, desk, script, out, SCRIPT_MOST) {
+    let answer = |desk: &mut Desk, number: u32, line: &[u8]| -> Result<Vec<u8>, Memory> {
+        desk.answer(rt, alloc, gate, number, line)
+    };
+    match answer_lines(alloc, desk, &answer, script, out, SCRIPT_MOST) {
         Ok(done) => match done.ended {
             Ended::Whole => status_of(done.answerer.has_refused()),
             Ended::TooLong => say(out, b"script too long\n", Status::LinesRefused),
@@ -143,7 +148,7 @@ pub fn answer_mesh<R: Threads + Sync, S: Source, K: Sink, G: Gate>(
     let Ok(world) = World::new(rt, alloc, mesh, plan.build, plan.workers, gate) else {
         return Status::Memory;
     };
-    answer_script(alloc, world, plan.unit, script, out)
+    answer_script(rt, gate, alloc, world, plan.unit, script, out)
 }
 
 /// Writes word that the mesh is refused at a line.

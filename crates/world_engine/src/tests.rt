@@ -616,7 +616,7 @@ fn a_world_is_asked_without_a_script(rt: HostRuntime) -> Result<(), Fail> {
     let mut world = World::new(&rt, alloc, mesh, Build::Karras, 64, &OpenGate).map_err(
         |_| "no memory for the world",
     )?;
-    let rows: [(&str, &[u8]); 9] = [
+    let rows: [(&str, &[u8]); 24] = [
         ("node 1", b"node 1 0 1 0 0 0 0 104 4 0\n"),
         ("box 104 4 0 200 9 0", b"overlaps 2: 2 3\n"),
         ("node 2", b"line 1: no such node\n"),
@@ -626,6 +626,21 @@ fn a_world_is_asked_without_a_script(rt: HostRuntime) -> Result<(), Fail> {
         ("seg 301 1 -1 301 1 1", b"miss\n"),
         ("groups", b"groups 1: default 3\n"),
         ("# nothing", b""),
+        ("move 0 0 0 0", b"line 1: no such vertex\n"),
+        ("move 10 0 0 0", b"line 1: no such vertex\n"),
+        ("move 1 300 0 0", b"moved 1\n"),
+        ("move 2 304 0 0", b"moved 2\n"),
+        ("move 3 300 4 0", b"moved 3\n"),
+        ("seg 301 1 -1 301 1 1", b"hit 1 1/2\n"),
+        ("work", b"work 5\n"),
+        ("refit", b"refitted\n"),
+        ("node 1", b"node 1 0 1 0 100 0 0 304 4 0\n"),
+        ("rebuild", b"rebuilt\n"),
+        ("node 1", b"node 1 0 1 0 100 0 0 204 4 0\n"),
+        ("node 0", b"node 0 0 2 1 100 0 0 304 4 0\n"),
+        ("work", b"work 5\n"),
+        ("box 301 0 0 301 4 0", b"overlaps 1: 1\n"),
+        ("work", b"work 3\n"),
     ];
     for (line, text) in rows {
         answers(&rt, &mut world, line, text)?;

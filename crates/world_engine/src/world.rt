@@ -1,31 +1,33 @@
-//! The world that a mesh opens. It keeps the triangles' boxes and the tree over them, both made once; queries walk the
-//! tree, and a box query leaves behind how many boxes it tested.
+//! The world that a mesh opens. It keeps the points as they were moved, and the triangles' boxes with the tree over
+//! them, which the next query fits where points were moved. Queries walk the tree, and a box query leaves behind how many
+//! boxes it tested.
 
-ghost use Rattle.std.specs.Prelude.{◌≡◌};
-ghost use Rattle.world_engine.specs.Worlds.{node_reply};
+ghost use Rattle.std.specs.Prelude.{◌≡◌, IfOk};
+ghost use Rattle.world_engine.specs.Worlds.{node_reply, is_vertex};
 
-use crate::corners::{Corners, boxes_of};
+use crate::corners::Corners;
 use crate::grouping::group_list;
+use crate::index::Index;
 use command_line::{Build, MOST_WORKERS};
 use fixed_box::{Box3, Point};
-use karras_build::{order_joined, tree_joined};
 use obj_text::Mesh;
 use outside::{Gate, Memory};
 use query_script::{Ask, HitFraction, LineFault, Reply};
-use radix_tree::{Node, Tree};
+use radix_tree::Node;
 use std::alloc::Global;
 use std::marker::Model;
 use std::thread::Threads;
 use traversal::{nearest_among, overlaps};
 
 /// A world of triangles, which answers asks. Contracts see it as its state: its mesh, the points now and
-/// those of the last build, and its last work.
+/// those of the last build, its last work, and whether no vertex was moved since it was opened, refitted or built anew.
 #[derive(Drop)]
 pub struct World {
     mesh: Mesh,
-    boxes: Vec<Box3>,
-    tree: Tree,
+    points: Vec<Point>,
+    index: Index,
     work: u64,
+    settled: bool,
 }
 
 impl Model for World {
@@ -34,9 +36,15 @@ impl Model for World {
 
     ghost Value = { WorldState };
 
-    ghost view = { λ w. record { mesh = w.mesh; now = w.mesh.points; built = w.mesh.points; work = w.work } };
+    ghost view = { λ w. record {
+      mesh = w.mesh;
+      now = w.points.items;
+      built = w.index.built.value.items;
+      work = w.work;
+      settled = w.settled;
+    } };
 
-    ghost invariant = { λ w. IsKept w.mesh w.boxes.items w.tree };
+    ghost invariant = { λ w. IsKept w.mesh w.points.items w.index w.settled };
 }
 
 impl World {
@@ -61,25 +69,26 @@ impl World {
         requires few { workers ≤ MOST_WORKERS }
         ensures { IfOk result (λ world. world ≡ world_of mesh) }
     {
-        let boxes = boxes_of(rt, alloc, mesh.points(), mesh.faces())?;
-        let keys = order_joined(rt, alloc, &boxes)?;
-        let tree = tree_joined(rt, alloc, keys, &boxes)?;
+        let points = copied(alloc, mesh.points())?;
+        let index = Index::build(rt, alloc, &points, mesh.faces())?;
         Ok(World {
             mesh,
-            boxes,
-            tree,
+            points,
+            index,
             work: 0,
+            settled: true,
         })
     }
 
-    /// Answers what is asked; the points of a `Seg` have to be in the world.
+    /// Answers what is asked; the points of a `Seg` and of a `Move` have to be in the world.
     ///
-    /// `Refused` is answered to no ask but `NodeOf`: with `NoSuchNode`, exactly where the number is not below the count
-    /// of inner nodes. Only `Overlap` changes the world, by its work. `Nothing`, `Seg`, `NodeOf` and `Work` take no
-    /// memory; after `Memory` the world is as before.
+    /// `Refused` is answered to no ask but `Move`, with `NoSuchVertex`, exactly where the number is no vertex's, and
+    /// `NodeOf`, with `NoSuchNode`, exactly where the number is not below the count of inner nodes; the world is then as
+    /// before. `Nothing`, `Move`, `Work` and every refused ask take no memory; nor do `Seg` and `NodeOf` where no vertex
+    /// was moved since the world was opened, refitted or built anew. After `Memory` the world is as before.
     pub fn answer<R: Threads + Sync, G: Gate>(
         &mut self,
-        _rt: &R,
+        rt: &R,
         alloc: Global,
         _gate: &G,
         ask: &Ask,
@@ -88,55 +97,98 @@ impl World {
         ensures reply { IfOk result (λ reply. reply ≡ reply_to self.old ask.now) }
         ensures state { OnOk result (self.new ≡ state_after self.old ask.now) }
         ensures memory { OnErr result (self.new ≡ self.old) }
-        ensures free { is_free ask.now ≡ true → IsOk result }
-    {
-        self.reply(alloc, ask)
-    }
-
-    /// Answers what is asked, on the calling thread.
-    pub(crate) fn reply(&mut self, alloc: Global, ask: &Ask) -> Result<Reply, Memory>
-        requires { IsAskable ask.now }
-        ensures reply { IfOk result (λ reply. reply ≡ reply_to self.old ask.now) }
-        ensures state { OnOk result (self.new ≡ state_after self.old ask.now) }
-        ensures memory { OnErr result (self.new ≡ self.old) }
-        ensures free { is_free ask.now ≡ true → IsOk result }
+        ensures free { is_free self.old ask.now ≡ true → IsOk result }
     {
         match ask {
             Ask::Nothing => Ok(Reply::Nothing),
-            Ask::Overlap { around } => self.overlap(alloc, around),
-            Ask::Seg { p, q } => Ok(self.segment(*p, *q)),
-            Ask::NodeOf { number } => Ok(self.node(*number)),
+            Ask::Overlap { around } => self.overlap(rt, alloc, around),
+            Ask::Seg { p, q } => self.segment(rt, alloc, *p, *q),
+            Ask::Move { vertex, to } => Ok(self.displace(*vertex, *to)),
+            Ask::Refit => self.refit(rt, alloc),
+            Ask::Rebuild => self.rebuild(rt, alloc),
+            Ask::NodeOf { number } => self.node(rt, alloc, *number),
             Ask::Groups => self.groups(alloc),
             Ask::Work => Ok(Reply::WorkIs(self.work)),
         }
     }
 
-    fn overlap(&mut self, alloc: Global, around: &Box3) -> Result<Reply, Memory>
+    fn overlap<R: Threads + Sync>(
+        &mut self,
+        rt: &R,
+        alloc: Global,
+        around: &Box3,
+    ) -> Result<Reply, Memory>
         ensures reply { IfOk result (λ reply. reply ≡ reply_to self.old (Ask.Overlap around.now)) }
         ensures state { OnOk result (self.new ≡ state_after self.old (Ask.Overlap around.now)) }
         ensures memory { OnErr result (self.new ≡ self.old) }
     {
-        let found = overlaps(alloc, &self.tree, &self.boxes, around)?;
+        self.index.mend(rt, alloc, &self.points, self.mesh.faces())?;
+        let found = overlaps(alloc, &self.index.tree, &self.index.boxes, around)?;
         self.work = found.work;
         Ok(Reply::Overlaps(found.numbers))
     }
 
-    fn segment(&self, p: Point, q: Point) -> Reply
+    fn segment<R: Threads + Sync>(
+        &mut self,
+        rt: &R,
+        alloc: Global,
+        p: Point,
+        q: Point,
+    ) -> Result<Reply, Memory>
         requires p { InWorld p }
         requires q { InWorld q }
-        ensures { result ≡ reply_to self.now (Ask.Seg p q) }
+        ensures reply { IfOk result (λ reply. reply ≡ reply_to self.old (Ask.Seg p q)) }
+        ensures state { self.new ≡ self.old }
+        ensures free { self.old.settled ≡ true → IsOk result }
     {
+        self.index.mend(rt, alloc, &self.points, self.mesh.faces())?;
         let corners = Corners {
-            points: self.mesh.points(),
+            points: &self.points,
             faces: self.mesh.faces(),
         };
-        match nearest_among(&self.tree, &corners, p, q) {
+        Ok(match nearest_among(&self.index.tree, &corners, p, q) {
             Some((tri, frac)) => Reply::Hit {
                 tri,
                 at: HitFraction::new(frac),
             },
             None => Reply::Miss,
+        })
+    }
+
+    /// Gives the vertex of that number another place. Boxes are fitted when they are next needed.
+    fn displace(&mut self, vertex: u64, to: Point) -> Reply
+        requires { InWorld to }
+        ensures reply { result ≡ reply_to self.old (Ask.Move vertex to) }
+        ensures state { self.new ≡ state_after self.old (Ask.Move vertex to) }
+    {
+        if is_vertex(self.points.len(), vertex) {
+            self.points[vertex as usize - 1] = to;
+            self.index.current = false;
+            self.settled = false;
+            Reply::Moved(vertex)
+        } else {
+            Reply::Refused(LineFault::NoSuchVertex)
         }
+    }
+
+    fn refit<R: Threads + Sync>(&mut self, rt: &R, alloc: Global) -> Result<Reply, Memory>
+        ensures reply { IfOk result (λ reply. reply ≡ reply_to self.old Ask.Refit) }
+        ensures state { OnOk result (self.new ≡ state_after self.old Ask.Refit) }
+        ensures memory { OnErr result (self.new ≡ self.old) }
+    {
+        self.index.mend(rt, alloc, &self.points, self.mesh.faces())?;
+        self.settled = true;
+        Ok(Reply::Refitted)
+    }
+
+    fn rebuild<R: Threads + Sync>(&mut self, rt: &R, alloc: Global) -> Result<Reply, Memory>
+        ensures reply { IfOk result (λ reply. reply ≡ reply_to self.old Ask.Rebuild) }
+        ensures state { OnOk result (self.new ≡ state_after self.old Ask.Rebuild) }
+        ensures memory { OnErr result (self.new ≡ self.old) }
+    {
+        self.index = Index::build(rt, alloc, &self.points, self.mesh.faces())?;
+        self.settled = true;
+        Ok(Reply::Rebuilt)
     }
 
     fn groups(&self, alloc: Global) -> Result<Reply, Memory>
@@ -145,11 +197,40 @@ impl World {
         Ok(Reply::GroupsAre(group_list(alloc, &self.mesh)?))
     }
 
-    fn node(&self, number: u64) -> Reply
-        ensures { result ≡ reply_to self.now (Ask.NodeOf number) }
+    fn node<R: Threads + Sync>(
+        &mut self,
+        rt: &R,
+        alloc: Global,
+        number: u64,
+    ) -> Result<Reply, Memory>
+        ensures reply { IfOk result (λ reply. reply ≡ reply_to self.old (Ask.NodeOf number)) }
+        ensures state { self.new ≡ self.old }
+        ensures free { is_free self.old (Ask.NodeOf number) ≡ true → IsOk result }
     {
-        node_reply(self.tree.nodes(), number)
+        if self.index.tree.nodes().len() as u64 <= number {
+            return Ok(Reply::Refused(LineFault::NoSuchNode));
+        }
+        self.index.mend(rt, alloc, &self.points, self.mesh.faces())?;
+        Ok(node_reply(self.index.tree.nodes(), number))
     }
+}
+
+/// The points, once more.
+fn copied(alloc: Global, points: &[Point]) -> Result<Vec<Point>, Memory>
+    ensures { IfOk result (λ copy. copy.items ≡ points.now) }
+{
+    let mut copy = Vec::new(alloc);
+    match copy.extend_from_slice(points) {
+        Ok(()) => Ok(copy),
+        Err(_) => Err(Memory),
+    }
+}
+
+/// Whether the number is a vertex's, of so many.
+fn is_vertex(count: usize, vertex: u64) -> bool
+    ensures { result ≡ is_vertex count vertex }
+{
+    0 < vertex && vertex <= count as u64
 }
 
 /// The node of that number, or that there is none.

@@ -1,0 +1,4 @@
+pub mod SameShapes
+pub mod Subtrees
+pub mod FittedRows
+pub mod WholeTrees

@@ -1,0 +1,24 @@
+use Rattle.std.proofs.Common.{◌≡◌, ◌≤◌, ◌∙◌, length, ap, arith, sym}
+use Rattle.std.proofs.lemmas.Bool.{false≢true}
+use Rattle.world_engine.specs.Worlds.{built_order, table}
+use Rattle.world_engine.proofs.NodeCounts.{length-table, past_is_refused, free_at_rest}
+use Rattle.world_engine.proofs.world.World.node.Goals as goal
+
+pub returns-then-nodes-number-clause-reply : goal.returns-then-nodes-number-clause-reply
+returns-then-nodes-number-clause-reply g c =
+    let world = c.args.self.now in
+    let count = ap length c.nodes.ensures.nodes
+    ∙ length-table c.self.inside.index.tree world c.nodes.ensures.table
+    (c.self.invariant.index.keys ∙ ap built_order c.self.view_is) in
+    past_is_refused (table world) c.args.number (omega (arith, count, c.if-nodes-number.true))
+
+pub returns-in_err-mend-clause-free : goal.returns-in_err-mend-clause-free
+returns-in_err-mend-clause-free g c = λ free.
+    let world = c.args.self.now in
+    let count = ap length c.nodes.ensures.nodes
+    ∙ length-table c.self.inside.index.tree world c.nodes.ensures.table
+    (c.self.invariant.index.keys ∙ ap built_order c.self.view_is) in
+    let rest = free_at_rest world.settled c.args.number (length (table world))
+    (omega (arith, count, c.if-nodes-number.false)) free in
+    absurd (false≢true
+    (c.in_err-mend.ensures.free (c.self.invariant.settled (ap (λ w. w.settled) c.self.view_is ∙ rest))))
