@@ -1,0 +1,10 @@
+pub mod Prefixes
+pub mod Runs
+pub mod Parting
+pub mod CellLaws
+pub mod SharedBits
+pub mod EdgeLaws
+pub mod Walking
+pub mod Tails
+pub mod EdgeSums
+mod Examples
