@@ -4,6 +4,11 @@ pub mod Stops
 pub mod RefusedMeshes
 pub mod Complete
 pub mod WorldBoxes
+pub mod FanLaws
+pub mod Marking
+pub mod MendedBoxes
+pub mod Indexes
+pub mod MovedVertices
 pub mod GroupCounts
 pub mod OpenedWords
 mod Examples

@@ -1,5 +1,5 @@
 -- How many nodes a world's tree has, whatever its boxes are, and which asks for one are refused or free.
-use Rattle.std.proofs.Common.{◌≡◌, ℕ, suc, zero, ◌-◌, ◌<◌, ◌≤◌, Bool, true, false, not, ◌||◌, inl, inr, refl, sym, ap, ◌∙◌, arith, List, length}
+use Rattle.std.proofs.Common.{◌≡◌, ℕ, suc, zero, ◌-◌, ◌<◌, ◌≤◌, Bool, true, not, ◌||◌, inl, inr, refl, sym, ap, ◌∙◌, List, length}
 use Rattle.std.specs.Prelude.{nat_lt}
 use Rattle.std.proofs.lemmas.Bool.{cond-false, le-ltb, lt-ltb, or_cases, not-true, both_ways}
 use Rattle.fixed_box.specs.declared.shapes.Box3.{Box3}

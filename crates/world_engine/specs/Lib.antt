@@ -3,6 +3,8 @@ pub mod Words
 pub mod Worlds
 pub mod Refusals
 pub mod Outputs
+pub mod Fans
+pub mod Marks
 pub mod Kept
 pub mod Grouping
 pub mod Runs

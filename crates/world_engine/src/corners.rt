@@ -33,7 +33,8 @@ impl<'a> Triangles for Corners<'a> {
     }
 }
 
-fn triangle(points: &[Point], face: &Face) -> Tri
+/// The triangle of a face.
+pub fn triangle(points: &[Point], face: &Face) -> Tri
     requires { IsFaceOf (length points.now) face.now }
     ensures { result ≡ tri_of points.now face.now }
 {
@@ -45,7 +46,7 @@ fn triangle(points: &[Point], face: &Face) -> Tri
 }
 
 /// Fits the boxes in as many threads as there are processors.
-pub fn fit_in_threads<R: Threads + Sync>(
+fn fit_in_threads<R: Threads + Sync>(
     rt: &R,
     points: &[Point],
     faces: &[Face],

@@ -1,15 +1,19 @@
 //! What a world keeps so that queries need not look at each triangle: the triangles' boxes, and the tree over them.
-//! The boxes stay as they are while points are moved, and are fitted to the points when they are next looked at.
+//! While points are moved boxes and tree stay as they are; the next call that looks at them fits them first.
 
-ghost use Rattle.std.specs.Prelude.{◌≡◌, ◌≤◌, true, length, IsOk, IfOk, OnOk, All};
+ghost use Rattle.std.specs.Prelude.{◌≡◌, ◌≤◌, ◌<◌, ℕ, [], length, IsOk, IfOk, OnOk, OnErr, All};
 ghost use Rattle.fixed_box.specs.World.{InWorld};
 ghost use Rattle.obj_text.specs.Meshes.{IsFaceOf};
-ghost use Rattle.world_engine.specs.Kept.{IsIndex, IsCurrent};
+ghost use Rattle.world_engine.specs.Worlds.{boxes_at};
+ghost use Rattle.world_engine.specs.Kept.{IsIndex};
 
-use crate::corners::{boxes_of, fit_in_threads};
+use crate::corners::boxes_of;
+use crate::fans::Fans;
+use crate::marks::Marks;
+use crate::mending::fit_moved;
 use fixed_box::{Box3, Point};
 use karras_build::{order_joined, tree_joined};
-use obj_text::{Face, MOST_FACES};
+use obj_text::{Face, MOST_FACES, MOST_POINTS};
 use outside::Memory;
 use radix_tree::Tree;
 use refit::refit;
@@ -24,8 +28,10 @@ pub struct Index {
     pub tree: Tree,
     /// The points of the build. Only proofs read them.
     pub built: Snapshot<Vec<Point>>,
-    /// Whether boxes and tree are fitted to the points now.
-    pub current: bool,
+    /// The vertices that were moved since boxes and tree were fitted.
+    pub marks: Marks,
+    /// The triangles that use each vertex, once they were needed.
+    pub fans: Option<Fans>,
 }
 
 impl Index {
@@ -39,45 +45,87 @@ impl Index {
         requires world { All InWorld points.now.items }
         requires named { All (IsFaceOf (length points.now.items)) faces.now }
         requires few { length faces.now ≤ MOST_FACES }
-        ensures index { IfOk result (λ index. IsIndex index faces.now) }
-        ensures current { IfOk result (λ index. index.current ≡ true × IsCurrent index points.now.items faces.now) }
+        ensures index { IfOk result (λ index. IsIndex index points.now.items faces.now) }
+        ensures still { IfOk result (λ index. index.marks.moved ≡ []) }
         ensures built { IfOk result (λ index. index.built.value.items ≡ points.now.items) }
     {
         let boxes = boxes_of(rt, alloc, points, faces)?;
         let keys = order_joined(rt, alloc, &boxes)?;
         let tree = tree_joined(rt, alloc, keys, &boxes)?;
+        let marks = Marks::none(alloc, points.len())?;
         Ok(Index {
             boxes,
             tree,
             built: Snapshot::of(points),
-            current: true,
+            marks,
+            fans: None,
         })
     }
 
-    /// Fits boxes and tree to the points now, where they are not. After `Memory` the next call does.
-    pub fn mend<R: Threads + Sync>(
+    /// Fits the boxes of triangles that use moved vertices.
+    fn fit_boxes(&mut self, alloc: Global, points: &[Point], faces: &[Face]) -> Result<(), Memory>
+        requires named { All (IsFaceOf (length points.now)) faces.now }
+        requires few { length faces.now ≤ MOST_FACES }
+        requires index { IsIndex self.old points.now faces.now }
+        ensures index { IsIndex self.new points.now faces.now }
+        ensures boxes { OnOk result (self.new.boxes.items ≡ boxes_at points.now faces.now) }
+        ensures marks { self.new.marks ≡ self.old.marks }
+        ensures built { self.new.built.value.items ≡ self.old.built.value.items }
+    {
+        if self.marks.is_empty() {
+            return Ok(());
+        }
+        let fans = match self.fans.take() {
+            Some(fans) => fans,
+            None => Fans::of(alloc, points.len(), faces)?,
+        };
+        fit_moved(points, faces, &fans, self.marks.moved(), &mut self.boxes);
+        self.fans = Some(fans);
+        Ok(())
+    }
+
+    /// Fits boxes and tree to the points now, where vertices were moved. After `Memory` the next call does.
+    pub fn mend(&mut self, alloc: Global, points: &[Point], faces: &[Face]) -> Result<(), Memory>
+        requires named { All (IsFaceOf (length points.now)) faces.now }
+        requires few { length faces.now ≤ MOST_FACES }
+        requires index { IsIndex self.old points.now faces.now }
+        ensures index { IsIndex self.new points.now faces.now }
+        ensures mended { OnOk result (self.new.marks.moved ≡ []) }
+        ensures free { self.old.marks.moved ≡ [] → IsOk result }
+        ensures built { self.new.built.value.items ≡ self.old.built.value.items }
+    {
+        if self.marks.is_empty() {
+            return Ok(());
+        }
+        self.fit_boxes(alloc, points, faces)?;
+        refit(alloc, &mut self.tree, &self.boxes)?;
+        self.marks.clear();
+        Ok(())
+    }
+
+    /// Builds the tree anew over the points now, by as many threads as it is worth. After `Memory` the old tree stands.
+    pub fn rebuild<R: Threads + Sync>(
         &mut self,
         rt: &R,
         alloc: Global,
-        points: &[Point],
+        points: &Vec<Point>,
         faces: &[Face],
     ) -> Result<(), Memory>
-        requires named { All (IsFaceOf (length points.now)) faces.now }
-        requires index { IsIndex self.old faces.now }
-        requires current { self.old.current ≡ true → IsCurrent self.old points.now faces.now }
-        ensures index { IsIndex self.new faces.now }
-        ensures current { self.new.current ≡ true → IsCurrent self.new points.now faces.now }
-        ensures mended { OnOk result (self.new.current ≡ true) }
-        ensures kept { self.old.current ≡ true → self.new.current ≡ true }
-        ensures free { self.old.current ≡ true → IsOk result }
-        ensures built { self.new.built.value.items ≡ self.old.built.value.items }
+        requires world { All InWorld points.now.items }
+        requires named { All (IsFaceOf (length points.now.items)) faces.now }
+        requires few { length faces.now ≤ MOST_FACES }
+        requires index { IsIndex self.old points.now.items faces.now }
+        ensures index { IsIndex self.new points.now.items faces.now }
+        ensures still { OnOk result (self.new.marks.moved ≡ []) }
+        ensures rest { self.old.marks.moved ≡ [] → self.new.marks.moved ≡ [] }
+        ensures built { OnOk result (self.new.built.value.items ≡ points.now.items) }
+        ensures memory { OnErr result (self.new.built.value.items ≡ self.old.built.value.items) }
     {
-        if self.current {
-            return Ok(());
-        }
-        fit_in_threads(rt, points, faces, &mut self.boxes);
-        refit(alloc, &mut self.tree, &self.boxes)?;
-        self.current = true;
+        self.fit_boxes(alloc, points, faces)?;
+        let keys = order_joined(rt, alloc, &self.boxes)?;
+        self.tree = tree_joined(rt, alloc, keys, &self.boxes)?;
+        self.marks.clear();
+        self.built = Snapshot::of(points);
         Ok(())
     }
 }

@@ -6,9 +6,12 @@
 
 mod corners;
 mod desk;
+mod fans;
 mod grouping;
 mod index;
 mod limits;
+mod marks;
+mod mending;
 mod refusals;
 mod runs;
 mod stages;

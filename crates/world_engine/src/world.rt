@@ -71,7 +71,7 @@ impl World {
         requires few { workers ≤ MOST_WORKERS }
         ensures { IfOk result (λ world. world ≡ world_of mesh) }
     {
-        let points = copied(alloc, mesh.points())?;
+        let points = mesh.points().to_vec(alloc).map_err(|_| Memory)?;
         let index = Index::build(rt, alloc, &points, mesh.faces())?;
         Ok(World {
             mesh,
@@ -104,12 +104,12 @@ impl World {
     {
         match ask {
             Ask::Nothing => Ok(Reply::Nothing),
-            Ask::Overlap { around } => self.overlap(rt, alloc, around),
-            Ask::Seg { p, q } => self.segment(rt, alloc, *p, *q),
+            Ask::Overlap { around } => self.overlap(alloc, around),
+            Ask::Seg { p, q } => self.segment(alloc, *p, *q),
             Ask::Move { vertex, to } => Ok(self.displace(*vertex, *to)),
-            Ask::Refit => self.refit(rt, alloc),
+            Ask::Refit => self.refit(alloc),
             Ask::Rebuild => self.rebuild(rt, alloc),
-            Ask::NodeOf { number } => self.node(rt, alloc, *number),
+            Ask::NodeOf { number } => self.node(alloc, *number),
             Ask::Cells { level } => self.cells(alloc, *level),
             Ask::Groups => self.groups(alloc),
             Ask::Stat => Ok(self.stat()),
@@ -117,36 +117,25 @@ impl World {
         }
     }
 
-    fn overlap<R: Threads + Sync>(
-        &mut self,
-        rt: &R,
-        alloc: Global,
-        around: &Box3,
-    ) -> Result<Reply, Memory>
+    fn overlap(&mut self, alloc: Global, around: &Box3) -> Result<Reply, Memory>
         ensures reply { IfOk result (λ reply. reply ≡ reply_to self.old (Ask.Overlap around.now)) }
         ensures state { OnOk result (self.new ≡ state_after self.old (Ask.Overlap around.now)) }
         ensures memory { OnErr result (self.new ≡ self.old) }
     {
-        self.index.mend(rt, alloc, &self.points, self.mesh.faces())?;
+        self.index.mend(alloc, &self.points, self.mesh.faces())?;
         let found = overlaps(alloc, &self.index.tree, &self.index.boxes, around)?;
         self.work = found.work;
         Ok(Reply::Overlaps(found.numbers))
     }
 
-    fn segment<R: Threads + Sync>(
-        &mut self,
-        rt: &R,
-        alloc: Global,
-        p: Point,
-        q: Point,
-    ) -> Result<Reply, Memory>
+    fn segment(&mut self, alloc: Global, p: Point, q: Point) -> Result<Reply, Memory>
         requires p { InWorld p }
         requires q { InWorld q }
         ensures reply { IfOk result (λ reply. reply ≡ reply_to self.old (Ask.Seg p q)) }
         ensures state { self.new ≡ self.old }
         ensures free { self.old.settled ≡ true → IsOk result }
     {
-        self.index.mend(rt, alloc, &self.points, self.mesh.faces())?;
+        self.index.mend(alloc, &self.points, self.mesh.faces())?;
         let corners = Corners {
             points: &self.points,
             faces: self.mesh.faces(),
@@ -160,15 +149,16 @@ impl World {
         })
     }
 
-    /// Gives the vertex of that number another place. Boxes are fitted when they are next needed.
+    /// Gives the vertex of that number another place, and marks it. Boxes are fitted when they are next needed.
     fn displace(&mut self, vertex: u64, to: Point) -> Reply
         requires { InWorld to }
         ensures reply { result ≡ reply_to self.old (Ask.Move vertex to) }
         ensures state { self.new ≡ state_after self.old (Ask.Move vertex to) }
     {
         if is_vertex(self.points.len(), vertex) {
-            self.points[vertex as usize - 1] = to;
-            self.index.current = false;
+            let position = vertex as usize - 1;
+            self.points[position] = to;
+            self.index.marks.mark(position as u32);
             self.settled = false;
             Reply::Moved(vertex)
         } else {
@@ -176,12 +166,12 @@ impl World {
         }
     }
 
-    fn refit<R: Threads + Sync>(&mut self, rt: &R, alloc: Global) -> Result<Reply, Memory>
+    fn refit(&mut self, alloc: Global) -> Result<Reply, Memory>
         ensures reply { IfOk result (λ reply. reply ≡ reply_to self.old Ask.Refit) }
         ensures state { OnOk result (self.new ≡ state_after self.old Ask.Refit) }
         ensures memory { OnErr result (self.new ≡ self.old) }
     {
-        self.index.mend(rt, alloc, &self.points, self.mesh.faces())?;
+        self.index.mend(alloc, &self.points, self.mesh.faces())?;
         self.settled = true;
         Ok(Reply::Refitted)
     }
@@ -191,7 +181,8 @@ impl World {
         ensures state { OnOk result (self.new ≡ state_after self.old Ask.Rebuild) }
         ensures memory { OnErr result (self.new ≡ self.old) }
     {
-        self.index = Index::build(rt, alloc, &self.points, self.mesh.faces())?;
+        self.index
+            .rebuild(rt, alloc, &self.points, self.mesh.faces())?;
         self.settled = true;
         Ok(Reply::Rebuilt)
     }
@@ -227,12 +218,7 @@ impl World {
         Ok(Reply::GroupsAre(group_list(alloc, &self.mesh)?))
     }
 
-    fn node<R: Threads + Sync>(
-        &mut self,
-        rt: &R,
-        alloc: Global,
-        number: u64,
-    ) -> Result<Reply, Memory>
+    fn node(&mut self, alloc: Global, number: u64) -> Result<Reply, Memory>
         ensures reply { IfOk result (λ reply. reply ≡ reply_to self.old (Ask.NodeOf number)) }
         ensures state { self.new ≡ self.old }
         ensures free { is_free self.old (Ask.NodeOf number) ≡ true → IsOk result }
@@ -240,19 +226,8 @@ impl World {
         if self.index.tree.nodes().len() as u64 <= number {
             return Ok(Reply::Refused(LineFault::NoSuchNode));
         }
-        self.index.mend(rt, alloc, &self.points, self.mesh.faces())?;
+        self.index.mend(alloc, &self.points, self.mesh.faces())?;
         Ok(node_reply(self.index.tree.nodes(), number))
-    }
-}
-
-/// The points, once more.
-fn copied(alloc: Global, points: &[Point]) -> Result<Vec<Point>, Memory>
-    ensures { IfOk result (λ copy. copy.items ≡ points.now) }
-{
-    let mut copy = Vec::new(alloc);
-    match copy.extend_from_slice(points) {
-        Ok(()) => Ok(copy),
-        Err(_) => Err(Memory),
     }
 }
 
