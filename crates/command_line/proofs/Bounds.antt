@@ -6,7 +6,8 @@ use Rattle.decimals.specs.Values.{whole_of}
 use Rattle.decimals.specs.declared.fault.NumberFault.{NumberFault}
 use Rattle.text_words.specs.Numbers.{starts_minus}
 use Rattle.fixed_box.specs.declared.shapes.TheConstants.{UNIT_MAX}
-use Rattle.command_line.specs.declared.limits.TheConstants.{MOST_DIGITS, LEAST_GRID, MOST_GRID, MOST_WORKERS, WORKERS, UNIT}
+use Rattle.obj_text.specs.declared.limits.TheConstants.{LEAST_GRID, MOST_GRID}
+use Rattle.command_line.specs.declared.limits.TheConstants.{MOST_DIGITS, MOST_WORKERS, WORKERS, UNIT}
 use Rattle.command_line.specs.declared.fault.WordsFault.{WordsFault}
 use Rattle.command_line.specs.Parts.{Name}
 use Rattle.command_line.specs.Parts.{Name as name}
@@ -16,11 +17,11 @@ use Rattle.command_line.specs.Parts.{Part}
 use Rattle.command_line.specs.Parts.{Part as part}
 use Rattle.command_line.specs.declared.plan.Build.{Build}
 use Rattle.command_line.specs.declared.plan.Input.{Input}
-use Rattle.command_line.specs.declared.plan.Input.TheVariants.{File}
+use Rattle.command_line.specs.declared.plan.Input.TheVariants.{File, Grid}
 use Rattle.command_line.specs.declared.plan.Plan.{Plan}
 use Rattle.command_line.specs.Values.{name_of, within, number_in, build_of, option_item}
 use Rattle.command_line.specs.Items.{whole_part, value_part, front_part, parted, long_part, hyphen_part, part_of, joined, items_from, items_of}
-use Rattle.command_line.specs.Plans.{mesh_place, grid_cells, worker_count, unit_steps, once_or, input_of, plan_with, item_plan, plan_of, place_of, IsInBounds}
+use Rattle.command_line.specs.Plans.{mesh_place, grid_squares, worker_count, unit_steps, once_or, input_of, plan_with, item_plan, plan_of, IsInputIn, IsInBounds}
 
 -- ---- numbers
 
@@ -46,7 +47,7 @@ number_bounds least most text n e = number_cases (nat_lt MOST_DIGITS (length tex
 -- the item's place is below n, and its number in its range
 abbrev pub IsItemIn : ℕ → Item → Type 0
 IsItemIn n (item.Mesh place) = place < n
-IsItemIn n (item.Grid cells) = ⊤
+IsItemIn n (item.Grid squares) = (LEAST_GRID ≤ squares) × (squares ≤ MOST_GRID)
 IsItemIn n (item.Workers count) = (1 ≤ count) × (count ≤ MOST_WORKERS)
 IsItemIn n (item.Build named) = ⊤
 IsItemIn n (item.Unit steps) = (1 ≤ steps) × (steps ≤ UNIT_MAX)
@@ -60,7 +61,7 @@ made_in make n None i h e = absurd (let no : ⊥ = cc in no)
 made_in make n (Some a) i h e = let is : make a ≡ i = cc in subst (IsItemIn n) is (h a refl)
 
 option_in : (n : ℕ) (nm : Name) (text : List ℕ) (i : Item) → option_item nm text ≡ Some i → IsItemIn n i
-option_in n name.Grid text i e = made_in item.Grid n (number_in LEAST_GRID MOST_GRID text) i (λ a h. tt) e
+option_in n name.Grid text i e = made_in item.Grid n (number_in LEAST_GRID MOST_GRID text) i (λ a h. number_bounds LEAST_GRID MOST_GRID text a h) e
 option_in n name.Workers text i e = made_in item.Workers n (number_in 1 MOST_WORKERS text) i (λ a h. number_bounds 1 MOST_WORKERS text a h) e
 option_in n name.Build text i e = made_in item.Build n (build_of text) i (λ a h. tt) e
 option_in n name.Unit text i e = made_in item.Unit n (number_in 1 UNIT_MAX text) i (λ a h. number_bounds 1 UNIT_MAX text a h) e
@@ -128,6 +129,14 @@ meshes_in n (item.Workers c ∷ items) h = meshes_in n items h.1
 meshes_in n (item.Build b ∷ items) h = meshes_in n items h.1
 meshes_in n (item.Unit u ∷ items) h = meshes_in n items h.1
 
+squares_in : (n : ℕ) (items : List Item) → Each (IsItemIn n) items → Each (λ s. (LEAST_GRID ≤ s) × (s ≤ MOST_GRID)) (filter_map grid_squares items)
+squares_in n [] h = tt
+squares_in n (item.Mesh p ∷ items) h = squares_in n items h.1
+squares_in n (item.Grid c ∷ items) h = (h.0, squares_in n items h.1)
+squares_in n (item.Workers c ∷ items) h = squares_in n items h.1
+squares_in n (item.Build b ∷ items) h = squares_in n items h.1
+squares_in n (item.Unit u ∷ items) h = squares_in n items h.1
+
 workers_in : (n : ℕ) (items : List Item) → Each (IsItemIn n) items → Each (λ c. (1 ≤ c) × (c ≤ MOST_WORKERS)) (filter_map worker_count items)
 workers_in n [] h = tt
 workers_in n (item.Mesh p ∷ items) h = workers_in n items h.1
@@ -149,22 +158,23 @@ once_in Q default [] x d h e = let is : default ≡ x = cc in subst Q is d
 once_in Q default (y ∷ []) x d h e = let is : y ≡ x = cc in subst Q is h.0
 once_in Q default (y ∷ z ∷ more) x d h e = absurd (let no : ⊥ = cc in no)
 
-input_in : (n : ℕ) (places grids units : List ℕ) (input : Input) → Each (λ p. p < n) places → input_of places grids units ≡ Some input → place_of input < n
-input_in n [] [] units input h e = absurd (let no : ⊥ = cc in no)
-input_in n [] (g ∷ []) [] input h e = absurd (let no : ⊥ = cc in no)
-input_in n [] (g ∷ []) (u ∷ units) input h e = absurd (let no : ⊥ = cc in no)
-input_in n [] (g ∷ k ∷ grids) units input h e = absurd (let no : ⊥ = cc in no)
-input_in n (p ∷ []) [] units input h e = let is : File p ≡ input = cc in subst (λ i. place_of i < n) is h.0
-input_in n (p ∷ []) (g ∷ grids) units input h e = absurd (let no : ⊥ = cc in no)
-input_in n (p ∷ q ∷ places) grids units input h e = absurd (let no : ⊥ = cc in no)
+input_in : (n : ℕ) (places grids units : List ℕ) (input : Input) → Each (λ p. p < n) places
+    → Each (λ s. (LEAST_GRID ≤ s) × (s ≤ MOST_GRID)) grids → input_of places grids units ≡ Some input → IsInputIn n input
+input_in n [] [] units input h s e = absurd (let no : ⊥ = cc in no)
+input_in n [] (g ∷ []) [] input h s e = let is : Grid g ≡ input = cc in subst (IsInputIn n) is s.0
+input_in n [] (g ∷ []) (u ∷ units) input h s e = absurd (let no : ⊥ = cc in no)
+input_in n [] (g ∷ k ∷ grids) units input h s e = absurd (let no : ⊥ = cc in no)
+input_in n (p ∷ []) [] units input h s e = let is : File p ≡ input = cc in subst (IsInputIn n) is h.0
+input_in n (p ∷ []) (g ∷ grids) units input h s e = absurd (let no : ⊥ = cc in no)
+input_in n (p ∷ q ∷ places) grids units input h s e = absurd (let no : ⊥ = cc in no)
 
 plan_in : (n : ℕ) (oi : Option Input) (ow : Option ℕ) (ob : Option Build) (ou : Option ℕ) (plan : Plan)
-    → ((i : Input) → oi ≡ Some i → place_of i < n) → ((w : ℕ) → ow ≡ Some w → (1 ≤ w) × (w ≤ MOST_WORKERS)) → ((u : ℕ) → ou ≡ Some u → (1 ≤ u) × (u ≤ UNIT_MAX))
+    → ((i : Input) → oi ≡ Some i → IsInputIn n i) → ((w : ℕ) → ow ≡ Some w → (1 ≤ w) × (w ≤ MOST_WORKERS)) → ((u : ℕ) → ou ≡ Some u → (1 ≤ u) × (u ≤ UNIT_MAX))
     → plan_with oi ow ob ou ≡ Some plan → IsInBounds n plan
 plan_in n (Some i) (Some w) (Some b) (Some u) plan hi hw hu e =
     let made : Plan = record { input = i; workers = w; build = b; unit = u } in
     let is : made ≡ plan = cc in
-    subst (IsInBounds n) is (record { place = hi i refl; some_workers = (hw w refl).0; few_workers = (hw w refl).1; some_unit = (hu u refl).0; small_unit = (hu u refl).1 })
+    subst (IsInBounds n) is (record { input = hi i refl; some_workers = (hw w refl).0; few_workers = (hw w refl).1; some_unit = (hu u refl).0; small_unit = (hu u refl).1 })
 plan_in n None ow ob ou plan hi hw hu e = absurd (let no : ⊥ = cc in no)
 plan_in n (Some i) None ob ou plan hi hw hu e = absurd (let no : ⊥ = cc in no)
 plan_in n (Some i) (Some w) None ou plan hi hw hu e = absurd (let no : ⊥ = cc in no)
@@ -173,7 +183,7 @@ plan_in n (Some i) (Some w) (Some b) None plan hi hw hu e = absurd (let no : ⊥
 items_plan_in : (n : ℕ) (items : List Item) (plan : Plan) → Each (IsItemIn n) items → item_plan items ≡ Some plan → IsInBounds n plan
 items_plan_in n items plan h e =
     plan_in n _ _ _ _ plan
-    (λ i f. input_in n (filter_map mesh_place items) (filter_map grid_cells items) (filter_map unit_steps items) i (meshes_in n items h) f)
+    (λ i f. input_in n (filter_map mesh_place items) (filter_map grid_squares items) (filter_map unit_steps items) i (meshes_in n items h) (squares_in n items h) f)
     (λ w f. once_in (λ c. (1 ≤ c) × (c ≤ MOST_WORKERS)) WORKERS (filter_map worker_count items) w (omega arith, omega arith) (workers_in n items h) f)
     (λ u f. once_in (λ c. (1 ≤ c) × (c ≤ UNIT_MAX)) UNIT (filter_map unit_steps items) u (omega arith, omega arith) (units_in n items h) f) e
 

@@ -13,7 +13,7 @@ use Rattle.command_line.specs.declared.plan.Input.{Input}
 use Rattle.command_line.specs.declared.plan.Plan.{Plan}
 use Rattle.command_line.specs.Values.{option_item}
 use Rattle.command_line.specs.Items.{part_of, whole_part, joined, items_from, items_of}
-use Rattle.command_line.specs.Plans.{mesh_place, grid_cells, worker_count, build_named, unit_steps, once_or, input_of, plan_with, item_plan, plan_of}
+use Rattle.command_line.specs.Plans.{mesh_place, grid_squares, worker_count, build_named, unit_steps, once_or, input_of, plan_with, item_plan, plan_of}
 
 -- ---- words are at most twice as many as their items
 
@@ -68,7 +68,7 @@ covered (Some n) place (word ∷ words) items e =
 
 -- ---- items of a plan are at most four
 
-pub count_kinds : (items : List Item) → length items ≡ length (filter_map mesh_place items) + length (filter_map grid_cells items)
+pub count_kinds : (items : List Item) → length items ≡ length (filter_map mesh_place items) + length (filter_map grid_squares items)
     + length (filter_map worker_count items) + length (filter_map build_named items) + length (filter_map unit_steps items)
 count_kinds [] = refl
 count_kinds (Mesh n ∷ items) = let before = count_kinds items in omega arith
@@ -109,7 +109,7 @@ plan_few ps gs us ws bs (Some i) (Some w) (Some b) None plan fi fw fb fu e = abs
 pub items_few : (items : List Item) (plan : Plan) → item_plan items ≡ Some plan → length items ≤ 4
 items_few items plan e =
     let count = count_kinds items in
-    let few = plan_few (filter_map mesh_place items) (filter_map grid_cells items) (filter_map unit_steps items) (filter_map worker_count items) (filter_map build_named items)
+    let few = plan_few (filter_map mesh_place items) (filter_map grid_squares items) (filter_map unit_steps items) (filter_map worker_count items) (filter_map build_named items)
     _ _ _ _ plan (input_few _ _ _) (once_few _ _) (once_few _ _) (once_few _ _) e in
     omega arith
 

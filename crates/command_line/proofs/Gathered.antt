@@ -8,7 +8,8 @@ use Rattle.std.proofs.lemmas.List.{append-nil, append_assoc, length-append}
 use Rattle.std.proofs.lemmas.List.Elements.{filter_map-append}
 use Rattle.clap.specs.Walk.{Text, first_of, has_row}
 use Rattle.fixed_box.specs.declared.shapes.TheConstants.{UNIT_MAX}
-use Rattle.command_line.specs.declared.limits.TheConstants.{LEAST_GRID, MOST_GRID, MOST_WORKERS, WORKERS, UNIT}
+use Rattle.obj_text.specs.declared.limits.TheConstants.{LEAST_GRID, MOST_GRID}
+use Rattle.command_line.specs.declared.limits.TheConstants.{MOST_WORKERS, WORKERS, UNIT}
 use Rattle.command_line.specs.Parts.{Name}
 use Rattle.command_line.specs.Parts.{Name as name}
 use Rattle.command_line.specs.Parts.{Item}
@@ -16,9 +17,10 @@ use Rattle.command_line.specs.Parts.{Item as item}
 use Rattle.command_line.specs.declared.plan.Build.{Build}
 use Rattle.command_line.specs.declared.plan.Build.TheVariants.{Karras}
 use Rattle.command_line.specs.declared.plan.Input.TheVariants.{File}
+use Rattle.command_line.specs.declared.plan.Input.{Input}
 use Rattle.command_line.specs.Values.{number_in, build_of}
-use Rattle.command_line.specs.Plans.{mesh_place, grid_cells, worker_count, build_named, unit_steps, once_or, input_of, plan_with, item_plan}
-use Rattle.command_line.specs.Uses.{key_text, Use, rows, seen, fresh, is_mesh, read_or, plan_from}
+use Rattle.command_line.specs.Plans.{mesh_place, grid_squares, worker_count, build_named, unit_steps, once_or, input_of, plan_with, item_plan}
+use Rattle.command_line.specs.Uses.{key_text, Use, rows, seen, fresh, is_mesh, read_or, plan_from, input_from}
 use Rattle.command_line.proofs.Grammar.{erase, item_of, read_all}
 
 abbrev pub same_key : Option Name → Option Name → Bool
@@ -151,7 +153,7 @@ fit_mesh (Some name.Workers) t i s = rw s.2 refl
 fit_mesh (Some name.Build) t i s = rw s.2 refl
 fit_mesh (Some name.Unit) t i s = rw s.2 refl
 
-fit_grid : (j : Option Name) (t : Text) (i : Item) → Says j t i → Fit (same_key j (Some name.Grid)) (number_in LEAST_GRID MOST_GRID t) (grid_cells i)
+fit_grid : (j : Option Name) (t : Text) (i : Item) → Says j t i → Fit (same_key j (Some name.Grid)) (number_in LEAST_GRID MOST_GRID t) (grid_squares i)
 fit_grid None t i s = rw s.1 refl
 fit_grid (Some name.Grid) t i s = (s.0, s.1, rw s.2 refl)
 fit_grid (Some name.Workers) t i s = rw s.2 refl
@@ -248,12 +250,6 @@ once_is {A = A} d r (t ∷ []) vs short e = go (r t) refl
     go : (o : Option A) → r t ≡ o → once_or d vs ≡ r t
     go o h = one (r t) e
 
-input_none : (gs us : List ℕ) → input_of [] gs us ≡ None
-input_none [] us = refl
-input_none (g ∷ []) [] = refl
-input_none (g ∷ []) (u ∷ us) = refl
-input_none (g ∷ h ∷ gs) us = refl
-
 trav_length : {A : Type 0} (r : Text → Option A) (ts : List Text) (vs : List A) → trav r ts ≡ Some vs → length vs ≡ length ts
 trav_length r [] vs e = let is : [] ≡ vs = cc in rw (← is) refl
 trav_length {A = A} r (t ∷ ts) vs e = go (r t) (trav r ts) (trav_length r ts) e
@@ -266,25 +262,56 @@ trav_length {A = A} r (t ∷ ts) vs e = go (r t) (trav r ts) (trav_length r ts) 
         let same = h l refl in
         rw (← is) (omega arith)
 
--- the places are as many as the MESH words
-module _ (wt bt ut : Option Text) (units : List ℕ) where
-  input_is : (ms gs : List Text) (zeros places cells : List ℕ) → length ms ≤ 1 → length gs ≤ 1 → trav mesh_read ms ≡ Some zeros → length places ≡ length ms → length cells ≡ length gs
-      → plan_with (input_of places cells units) (read_or WORKERS (number_in 1 MOST_WORKERS) wt) (read_or Karras build_of bt) (read_or UNIT (number_in 1 UNIT_MAX) ut)
-      ≡ plan_from (slice_get places 0) (slice_get ms 0) (slice_get gs 0) wt bt ut
-  input_is ms gs zeros [] cells a b e p c = rw (input_none cells units) refl
-  input_is [] gs zeros (x ∷ xs) cells a b e p c = absurd (omega arith)
-  input_is (m ∷ n ∷ ms) gs zeros (x ∷ xs) cells a b e p c = absurd (omega arith)
-  input_is (m ∷ []) gs zeros (x ∷ y ∷ xs) cells a b e p c = absurd (omega arith)
-  input_is (m ∷ []) [] zeros (x ∷ []) (d ∷ cells) a b e p c = absurd (omega arith)
-  input_is (m ∷ []) (g ∷ gs) zeros (x ∷ []) [] a b e p c = absurd (omega arith)
-  input_is (m ∷ []) (g ∷ gs) zeros (x ∷ []) (d ∷ cells) a b e p c = refl
-  input_is (m ∷ []) [] zeros (x ∷ []) [] a b e p c = go (is_mesh m) refl
-    where
-      go : (t : Bool) → is_mesh m ≡ t
-          → plan_with (Some (File x)) (read_or WORKERS (number_in 1 MOST_WORKERS) wt) (read_or Karras build_of bt) (read_or UNIT (number_in 1 UNIT_MAX) ut)
-          ≡ plan_from (Some x) (Some m) None wt bt ut
-      go true t = rw t refl
-      go false t = absurd (let no : (let none : Option (List ℕ) = None in none) ≡ Some zeros = rw t at e in let bad : ⊥ = cc in bad)
+-- one text that is read gives one value
+one_read : (read : Text → Option ℕ) (t : Text) (vs : List ℕ) → trav read (t ∷ []) ≡ Some vs → (v : ℕ) × (read t ≡ Some v) × (vs ≡ v ∷ [])
+one_read read t vs e = go (read t) e
+  where
+    go : (o : Option ℕ) → option_and_then (λ v. option_map (λ vs. v ∷ vs) (Some [])) o ≡ Some vs → (v : ℕ) × (o ≡ Some v) × (vs ≡ v ∷ [])
+    go None h = absurd (let bad : ⊥ = cc in bad)
+    go (Some v) h = let is : v ∷ [] ≡ vs = cc in (v, refl, sym is)
+
+-- a MESH word's input is the file at its place
+file_is : (mesh : Text) (grids units : List Text) (zeros squares steps : List ℕ) (place : ℕ)
+    → trav mesh_read (mesh ∷ []) ≡ Some zeros → length squares ≡ length grids
+    → input_of (place ∷ []) squares steps
+    ≡ input_from (Some mesh) (slice_get grids 0) (slice_get units 0) (Some place)
+file_is mesh [] units zeros [] steps place e same = go (is_mesh mesh) refl
+  where
+    go : (t : Bool) → is_mesh mesh ≡ t → (let file : Option Input = Some (File place) in file) ≡ (if is_mesh mesh then Some (File place) else None)
+    go true t = rw t refl
+    go false t = absurd (let no : (let none : Option (List ℕ) = None in none) ≡ Some zeros = rw t at e in let bad : ⊥ = cc in bad)
+file_is mesh (grid ∷ grids) units zeros (s ∷ squares) steps place e same = refl
+file_is mesh [] units zeros (s ∷ squares) steps place e same = absurd (omega arith)
+file_is mesh (grid ∷ grids) units zeros [] steps place e same = absurd (omega arith)
+
+-- where no MESH word stands, the input is that of `grid`
+grid_is : (grids units : List Text) (squares steps : List ℕ) (place : Option ℕ)
+    → length grids ≤ 1 → trav (number_in LEAST_GRID MOST_GRID) grids ≡ Some squares → length steps ≡ length units
+    → input_of [] squares steps ≡ input_from None (slice_get grids 0) (slice_get units 0) place
+grid_is [] units squares steps place short e same = let is : [] ≡ squares = cc in rw (← is) refl
+grid_is (grid ∷ more ∷ grids) units squares steps place short e same = absurd (omega arith)
+grid_is (grid ∷ []) [] squares (step ∷ steps) place short e same = absurd (omega arith)
+grid_is (grid ∷ []) (unit ∷ units) squares [] place short e same = absurd (omega arith)
+grid_is (grid ∷ []) (unit ∷ units) squares (step ∷ steps) place short e same =
+    let one = one_read (number_in LEAST_GRID MOST_GRID) grid squares e in rw one.2 refl
+grid_is (grid ∷ []) [] squares [] place short e same =
+    let one = one_read (number_in LEAST_GRID MOST_GRID) grid squares e in rw (one.2, one.1) refl
+
+-- the input that the texts give is that of their values
+input_is : (meshes grids units : List Text) (zeros squares steps places : List ℕ)
+    → length meshes ≤ 1 → length grids ≤ 1
+    → trav mesh_read meshes ≡ Some zeros → length places ≡ length meshes
+    → trav (number_in LEAST_GRID MOST_GRID) grids ≡ Some squares → length squares ≡ length grids
+    → length steps ≡ length units
+    → input_of places squares steps
+    ≡ input_from (slice_get meshes 0) (slice_get grids 0) (slice_get units 0) (slice_get places 0)
+input_is [] grids units zeros squares steps [] a b e p g h u = grid_is grids units squares steps None b g u
+input_is (mesh ∷ []) grids units zeros squares steps (place ∷ []) a b e p g h u =
+    file_is mesh grids units zeros squares steps place e h
+input_is [] grids units zeros squares steps (place ∷ places) a b e p g h u = absurd (omega arith)
+input_is (mesh ∷ meshes) grids units zeros squares steps [] a b e p g h u = absurd (omega arith)
+input_is (mesh ∷ other ∷ meshes) grids units zeros squares steps (place ∷ places) a b e p g h u = absurd (omega arith)
+input_is (mesh ∷ []) grids units zeros squares steps (place ∷ other ∷ places) a b e p g h u = absurd (omega arith)
 
 -- items but for their places
 kept : {A : Type 0} (get : Item → Option A) → ((i : Item) → get (erase i) ≡ get i) → (items : List Item) → filter_map get (map erase items) ≡ filter_map get items
@@ -303,7 +330,7 @@ as_many (item.Workers p ∷ items) = as_many items
 as_many (item.Build p ∷ items) = as_many items
 as_many (item.Unit p ∷ items) = as_many items
 
-grid_kept : (i : Item) → grid_cells (erase i) ≡ grid_cells i
+grid_kept : (i : Item) → grid_squares (erase i) ≡ grid_squares i
 grid_kept (item.Mesh p) = refl
 grid_kept (item.Grid p) = refl
 grid_kept (item.Workers p) = refl
@@ -335,8 +362,8 @@ module _ (us : List Use) (items : List Item) (read : read_all us ≡ Some (map e
   meshes : trav mesh_read (texts None us) ≡ Some (filter_map mesh_place (map erase items))
   meshes = gathered None mesh_read mesh_place fit_mesh us (map erase items) read
 
-  grids : trav (number_in LEAST_GRID MOST_GRID) (texts (Some name.Grid) us) ≡ Some (filter_map grid_cells items)
-  grids = gathered (Some name.Grid) _ grid_cells fit_grid us (map erase items) read ∙ ap Some (kept grid_cells grid_kept items)
+  grids : trav (number_in LEAST_GRID MOST_GRID) (texts (Some name.Grid) us) ≡ Some (filter_map grid_squares items)
+  grids = gathered (Some name.Grid) _ grid_squares fit_grid us (map erase items) read ∙ ap Some (kept grid_squares grid_kept items)
 
   workers : trav (number_in 1 MOST_WORKERS) (texts (Some name.Workers) us) ≡ Some (filter_map worker_count items)
   workers = gathered (Some name.Workers) _ worker_count fit_workers us (map erase items) read ∙ ap Some (kept worker_count workers_kept items)
@@ -351,7 +378,7 @@ module _ (us : List Use) (items : List Item) (read : read_all us ≡ Some (map e
   pub mesh_count : length (filter_map mesh_place items) ≡ length (texts None us)
   mesh_count = sym (as_many items) ∙ trav_length mesh_read (texts None us) _ meshes
 
-  pub grid_count : length (filter_map grid_cells items) ≡ length (texts (Some name.Grid) us)
+  pub grid_count : length (filter_map grid_squares items) ≡ length (texts (Some name.Grid) us)
   grid_count = trav_length (number_in LEAST_GRID MOST_GRID) _ _ grids
 
   pub worker_total : length (filter_map worker_count items) ≡ length (texts (Some name.Workers) us)
@@ -367,11 +394,12 @@ module _ (us : List Use) (items : List Item) (read : read_all us ≡ Some (map e
       ≡ plan_from (slice_get (filter_map mesh_place items) 0) (slice_get (texts None us) 0) (slice_get (texts (Some name.Grid) us) 0)
       (slice_get (texts (Some name.Workers) us) 0) (slice_get (texts (Some name.Build) us) 0) (slice_get (texts (Some name.Unit) us) 0)
   plan_is short =
-      ap (λ w. plan_with (input_of (filter_map mesh_place items) (filter_map grid_cells items) (filter_map unit_steps items)) w (once_or Karras (filter_map build_named items)) (once_or UNIT (filter_map unit_steps items)))
+      ap (λ w. plan_with (input_of (filter_map mesh_place items) (filter_map grid_squares items) (filter_map unit_steps items)) w (once_or Karras (filter_map build_named items)) (once_or UNIT (filter_map unit_steps items)))
       (once_is WORKERS (number_in 1 MOST_WORKERS) _ _ (short (Some name.Workers)) workers)
-      ∙ ap (λ b. plan_with (input_of (filter_map mesh_place items) (filter_map grid_cells items) (filter_map unit_steps items)) (read_or WORKERS (number_in 1 MOST_WORKERS) (slice_get (texts (Some name.Workers) us) 0)) b (once_or UNIT (filter_map unit_steps items)))
+      ∙ ap (λ b. plan_with (input_of (filter_map mesh_place items) (filter_map grid_squares items) (filter_map unit_steps items)) (read_or WORKERS (number_in 1 MOST_WORKERS) (slice_get (texts (Some name.Workers) us) 0)) b (once_or UNIT (filter_map unit_steps items)))
       (once_is Karras build_of _ _ (short (Some name.Build)) builds)
-      ∙ ap (λ u. plan_with (input_of (filter_map mesh_place items) (filter_map grid_cells items) (filter_map unit_steps items)) (read_or WORKERS (number_in 1 MOST_WORKERS) (slice_get (texts (Some name.Workers) us) 0)) (read_or Karras build_of (slice_get (texts (Some name.Build) us) 0)) u)
+      ∙ ap (λ u. plan_with (input_of (filter_map mesh_place items) (filter_map grid_squares items) (filter_map unit_steps items)) (read_or WORKERS (number_in 1 MOST_WORKERS) (slice_get (texts (Some name.Workers) us) 0)) (read_or Karras build_of (slice_get (texts (Some name.Build) us) 0)) u)
       (once_is UNIT (number_in 1 UNIT_MAX) _ _ (short (Some name.Unit)) units)
-      ∙ input_is _ _ _ (filter_map unit_steps items) (texts None us) (texts (Some name.Grid) us) _ (filter_map mesh_place items) (filter_map grid_cells items)
-      (short None) (short (Some name.Grid)) meshes mesh_count grid_count
+      ∙ ap (λ i. plan_with i (read_or WORKERS (number_in 1 MOST_WORKERS) (slice_get (texts (Some name.Workers) us) 0)) (read_or Karras build_of (slice_get (texts (Some name.Build) us) 0)) (read_or UNIT (number_in 1 UNIT_MAX) (slice_get (texts (Some name.Unit) us) 0)))
+      (input_is (texts None us) (texts (Some name.Grid) us) (texts (Some name.Unit) us) _ _ _ (filter_map mesh_place items)
+      (short None) (short (Some name.Grid)) meshes mesh_count grids grid_count unit_count)

@@ -4,6 +4,7 @@ use Rattle.std.specs.Prelude.{option_map, option_and_then, filter_map, slice_get
 use Rattle.std.specs.Option.{option_map_or}
 use Rattle.std.specs.List.{list_all}
 use Rattle.clap.specs.Walk.{Text}
+use Rattle.obj_text.specs.declared.limits.TheConstants.{LEAST_GRID, MOST_GRID}
 use Rattle.fixed_box.specs.declared.shapes.TheConstants.{UNIT_MAX}
 use Rattle.command_line.specs.declared.limits.TheConstants.{MOST_WORKERS, WORKERS, UNIT}
 use Rattle.command_line.specs.Parts.{Name}
@@ -12,13 +13,13 @@ use Rattle.command_line.specs.Parts.{Item}
 use Rattle.command_line.specs.Parts.{Item as item}
 use Rattle.command_line.specs.declared.plan.Build.{Build}
 use Rattle.command_line.specs.declared.plan.Build.TheVariants.{Karras}
-use Rattle.command_line.specs.declared.plan.Input.TheVariants.{File}
+use Rattle.command_line.specs.declared.plan.Input.TheVariants.{Grid}
 use Rattle.command_line.specs.declared.plan.Input.{Input}
 use Rattle.command_line.specs.declared.plan.Plan.{Plan}
 use Rattle.command_line.specs.Values.{number_in, build_of}
 use Rattle.command_line.specs.Items.{items_of}
-use Rattle.command_line.specs.Plans.{mesh_place, grid_cells, worker_count, build_named, unit_steps, plan_with, item_plan, plan_of}
-use Rattle.command_line.specs.Uses.{read_or, Use, rows, fresh, ends, cut, is_mesh, mesh_from, plan_from, row_plan, given_plan}
+use Rattle.command_line.specs.Plans.{mesh_place, grid_squares, worker_count, build_named, unit_steps, plan_with, item_plan, plan_of}
+use Rattle.command_line.specs.Uses.{read_or, Use, rows, fresh, ends, cut, is_mesh, mesh_from, input_from, plan_from, row_plan, given_plan}
 use Rattle.command_line.proofs.Few.{once_few, input_few}
 use Rattle.command_line.proofs.Grammar.{erase, read_all, read, items_read}
 use Rattle.command_line.proofs.MeshPlace.{mesh_is}
@@ -39,10 +40,10 @@ module _ (us : List Use) (items : List Item) (as_read : read_all us ≡ Some (ma
   each_once : (k : Option Name) → length (texts k us) ≤ 1
   each_once k =
       let parts = plan_parts _ _ _ _ plan e in
-      go k (input_few (filter_map mesh_place items) (filter_map grid_cells items) (filter_map unit_steps items) parts.0.0 parts.0.1) (once_few WORKERS (filter_map worker_count items) parts.1.0 parts.1.1)
+      go k (input_few (filter_map mesh_place items) (filter_map grid_squares items) (filter_map unit_steps items) parts.0.0 parts.0.1) (once_few WORKERS (filter_map worker_count items) parts.1.0 parts.1.1)
       (once_few _ (filter_map build_named items) parts.2.0 parts.2.1) (once_few UNIT (filter_map unit_steps items) parts.3.0 parts.3.1)
     where
-      go : (k : Option Name) → length (filter_map mesh_place items) + length (filter_map grid_cells items) ≤ 1 → length (filter_map worker_count items) ≤ 1
+      go : (k : Option Name) → length (filter_map mesh_place items) + length (filter_map grid_squares items) ≤ 1 → length (filter_map worker_count items) ≤ 1
           → length (filter_map build_named items) ≤ 1 → length (filter_map unit_steps items) ≤ 1 → length (texts k us) ≤ 1
       go None m w b u = let same = mesh_count us items as_read in omega arith
       go (Some name.Grid) m w b u = let same = grid_count us items as_read in omega arith
@@ -98,12 +99,30 @@ module _ (plan : Plan) where
   mapped_read : {A : Type 0} (f : A → Item) (o : Option A) (x : A) → o ≡ Some x → is_some (option_map f o) ≡ true
   mapped_read f o x e = rw e refl
 
-  value_heads : (m : Text) (p : ℕ) (w b u : Option Text) → (is_mesh m ≡ true)
-      → plan_with (Some (File p)) (read_or WORKERS (number_in 1 MOST_WORKERS) w) (read_or Karras build_of b) (read_or UNIT (number_in 1 UNIT_MAX) u) ≡ Some plan
-      → (head_read (Some name.Workers) w ≡ true) × (head_read (Some name.Build) b ≡ true) × (head_read (Some name.Unit) u ≡ true)
-  value_heads m p w b u is e =
-      let parts = plan_parts (Some (File p)) (read_or WORKERS (number_in 1 MOST_WORKERS) w) (read_or Karras build_of b) (read_or UNIT (number_in 1 UNIT_MAX) u) plan e in
-      (workers w parts.1.0 parts.1.1, builds b parts.2.0 parts.2.1, units u parts.3.0 parts.3.1)
+  -- the texts that give an input are read
+  input_heads : (mesh grid unit : Option Text) (place : Option ℕ) (input : Input) → input_from mesh grid unit place ≡ Some input
+      → (head_read None mesh ≡ true) × (head_read (Some name.Grid) grid ≡ true)
+  input_heads (Some mesh) None unit place input e = go (is_mesh mesh) refl
+    where
+      go : (t : Bool) → is_mesh mesh ≡ t → (head_read None (Some mesh) ≡ true) × (head_read (Some name.Grid) None ≡ true)
+      go true t = (rw t refl, refl)
+      go false t = absurd (let no : (let none : Option Input = None in none) ≡ Some input = rw t at e in let bad : ⊥ = cc in bad)
+  input_heads None (Some grid) None place input e = (refl, go (number_in LEAST_GRID MOST_GRID grid) e)
+    where
+      go : (o : Option ℕ) → option_map Grid o ≡ Some input → is_some (option_map item.Grid o) ≡ true
+      go None h = absurd (let bad : ⊥ = cc in bad)
+      go (Some squares) h = refl
+  input_heads None None unit place input e = absurd (let bad : ⊥ = cc in bad)
+  input_heads None (Some grid) (Some unit) place input e = absurd (let bad : ⊥ = cc in bad)
+  input_heads (Some mesh) (Some grid) unit place input e = absurd (let bad : ⊥ = cc in bad)
+
+  -- the texts that give a plan are read
+  heads : (place : Option ℕ) (m g w b u : Option Text) → plan_from place m g w b u ≡ Some plan
+      → (head_read None m ≡ true) × (head_read (Some name.Grid) g ≡ true) × (head_read (Some name.Workers) w ≡ true) × (head_read (Some name.Build) b ≡ true) × (head_read (Some name.Unit) u ≡ true)
+  heads place m g w b u e =
+      let parts = plan_parts (input_from m g u place) (read_or WORKERS (number_in 1 MOST_WORKERS) w) (read_or Karras build_of b) (read_or UNIT (number_in 1 UNIT_MAX) u) plan e in
+      let named = input_heads m g u place parts.0.0 parts.0.1 in
+      (named.0, named.1, workers w parts.1.0 parts.1.1, builds b parts.2.0 parts.2.1, units u parts.3.0 parts.3.1)
     where
       workers : (o : Option Text) (x : ℕ) → read_or WORKERS (number_in 1 MOST_WORKERS) o ≡ Some x → head_read (Some name.Workers) o ≡ true
       workers None x h = refl
@@ -116,20 +135,6 @@ module _ (plan : Plan) where
       units : (o : Option Text) (x : ℕ) → read_or UNIT (number_in 1 UNIT_MAX) o ≡ Some x → head_read (Some name.Unit) o ≡ true
       units None x h = refl
       units (Some t) x h = mapped_read item.Unit (number_in 1 UNIT_MAX t) x h
-
-  heads : (place : Option ℕ) (m g w b u : Option Text) → plan_from place m g w b u ≡ Some plan
-      → (head_read None m ≡ true) × (head_read (Some name.Grid) g ≡ true) × (head_read (Some name.Workers) w ≡ true) × (head_read (Some name.Build) b ≡ true) × (head_read (Some name.Unit) u ≡ true)
-  heads None m g w b u e = absurd (let bad : ⊥ = cc in bad)
-  heads (Some p) None g w b u e = absurd (let bad : ⊥ = cc in bad)
-  heads (Some p) (Some m) (Some g) w b u e = absurd (let bad : ⊥ = cc in bad)
-  heads (Some p) (Some m) None w b u e = go (is_mesh m) refl
-    where
-      go : (t : Bool) → is_mesh m ≡ t
-          → (head_read None (Some m) ≡ true) × (head_read (Some name.Grid) None ≡ true) × (head_read (Some name.Workers) w ≡ true) × (head_read (Some name.Build) b ≡ true) × (head_read (Some name.Unit) u ≡ true)
-      go true t =
-          let rest = value_heads m p w b u t (rw t at e) in
-          (rw t refl, refl, rest.0, rest.1, rest.2)
-      go false t = absurd (let no : (let none : Option Plan = None in none) ≡ Some plan = rw t at e in let bad : ⊥ = cc in bad)
 
 short_read : (k : Option Name) (ts : List Text) → length ts ≤ 1 → head_read k (slice_get ts 0) ≡ true → list_all (is_read k) ts ≡ true
 short_read k [] short e = refl

@@ -12,11 +12,13 @@ use Rattle.clap.specs.Walk.{Row, Text, first_of, has_row}
 use Rattle.clap.specs.declared.parser.matches.ValueSource.TheVariants.{CommandLine}
 use Rattle.clap.specs.declared.builder.value_parser.ValueParser.TheVariants as vp
 use Rattle.fixed_box.specs.declared.shapes.TheConstants.{UNIT_MAX}
+use Rattle.obj_text.specs.declared.limits.TheConstants.{LEAST_GRID, MOST_GRID}
 use Rattle.command_line.specs.declared.limits.TheConstants.{WORKERS, UNIT, MOST_WORKERS}
 use Rattle.command_line.specs.Parts.{Name}
 use Rattle.command_line.specs.Parts.{Name as name}
 use Rattle.command_line.specs.declared.plan.Build.TheVariants.{Karras}
-use Rattle.command_line.specs.declared.plan.Input.TheVariants.{File}
+use Rattle.command_line.specs.declared.plan.Input.TheVariants.{File, Grid}
+use Rattle.command_line.specs.declared.plan.Input.{Input}
 use Rattle.command_line.specs.declared.plan.Plan.{Plan}
 use Rattle.command_line.specs.Values.{name_of, number_in, build_of}
 use Rattle.command_line.specs.Plans.{plan_with}
@@ -96,12 +98,17 @@ abbrev pub read_or : {A : Type 0} → A → (Text → Option A) → Option Text 
 read_or default read None = Some default
 read_or default read (Some text) = read text
 
+-- the input of a MESH word at a place, or of a text of `grid` with no text of `unit`
+abbrev pub input_from : Option Text → Option Text → Option Text → Option ℕ → Option Input
+input_from (Some mesh) None unit place = if is_mesh mesh then option_map File place else None
+input_from None (Some grid) None place = option_map Grid (number_in LEAST_GRID MOST_GRID grid)
+input_from _ _ _ _ = None
+
 -- the plan of a MESH word at a place and of the texts of the options
 abbrev pub plan_from : Option ℕ → Option Text → Option Text → Option Text → Option Text → Option Text → Option Plan
-plan_from (Some place) (Some mesh) None workers build unit =
-    if is_mesh mesh then plan_with (Some (File place)) (read_or WORKERS (number_in 1 MOST_WORKERS) workers)
-    (read_or Karras build_of build) (read_or UNIT (number_in 1 UNIT_MAX) unit) else None
-plan_from _ _ _ workers build unit = None
+plan_from place mesh grid workers build unit =
+    plan_with (input_from mesh grid unit place) (read_or WORKERS (number_in 1 MOST_WORKERS) workers)
+    (read_or Karras build_of build) (read_or UNIT (number_in 1 UNIT_MAX) unit)
 
 -- the place of the first word that is neither an option nor an option's value, from a place on
 abbrev pub mesh_from : Bool → ℕ → List Text → Option ℕ

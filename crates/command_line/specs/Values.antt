@@ -4,7 +4,8 @@ use Rattle.std.specs.Str.{bytes_eq}
 use Rattle.decimals.specs.Values.{whole_of}
 use Rattle.decimals.specs.declared.fault.NumberFault.{NumberFault}
 use Rattle.fixed_box.specs.declared.shapes.TheConstants.{UNIT_MAX}
-use Rattle.command_line.specs.declared.limits.TheConstants.{MOST_DIGITS, LEAST_GRID, MOST_GRID, MOST_WORKERS}
+use Rattle.obj_text.specs.declared.limits.TheConstants.{LEAST_GRID, MOST_GRID}
+use Rattle.command_line.specs.declared.limits.TheConstants.{MOST_DIGITS, MOST_WORKERS}
 use Rattle.command_line.specs.Parts.{Name}
 use Rattle.command_line.specs.Parts.{Name as name}
 use Rattle.command_line.specs.Parts.{Item}

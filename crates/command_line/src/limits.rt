@@ -3,12 +3,6 @@
 /// The most digits of a number, leading zeros counted.
 pub const MOST_DIGITS: usize = 6;
 
-/// The least number of cells along a side of the large workload.
-pub const LEAST_GRID: u32 = 2;
-
-/// The greatest number of such cells.
-pub const MOST_GRID: u32 = 512;
-
 /// The most workers that may build a world.
 pub const MOST_WORKERS: u32 = 64;
 

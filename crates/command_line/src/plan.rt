@@ -5,6 +5,9 @@
 pub enum Input {
     /// The mesh file that the word at this place names; places are counted from 0.
     File(u32),
+    /// The height field of the large workload, of so many squares along each side: `obj_text::LEAST_GRID` to
+    /// `obj_text::MOST_GRID`.
+    Grid(u32),
 }
 
 /// How the world's tree is built. Whichever is named, the tree is the same.

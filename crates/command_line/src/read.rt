@@ -16,21 +16,23 @@ use std::alloc::Global;
 ///
 /// From left to right each word, or two, is an item: the MESH word, which is not empty and does not begin with `-`;
 /// `--name=value`; or `--name` and a value, which does not begin with `-`. A word `--name` always takes the next word as
-/// its value. Items may stand in any order, each name at most once. Exactly one MESH word stands.
+/// its value. Items may stand in any order, each name at most once. Exactly one of a MESH word and `grid` stands, and
+/// `unit` only beside a MESH word.
 ///
 /// | name | value | default |
 /// |---|---|---|
+/// | `grid` | 1 to 6 digits, `obj_text::LEAST_GRID` to `obj_text::MOST_GRID` | |
 /// | `workers` | 1 to 6 digits, 1 to 64 | 4 |
 /// | `unit` | 1 to 6 digits, 1 to `fixed_box::UNIT_MAX` | 64 |
 /// | `build` | `karras` | `karras` |
 ///
-/// Every other list is refused as `Usage`, also one with `--grid` or `--build apetrei`, which ask for what is not there
-/// yet. The plan holds the place of the MESH word, counted from 0. It takes memory for one command of `clap`
-/// and what that finds in at most eight words.
+/// Every other list is refused as `Usage`, also one with `--build apetrei`, which asks for what is not there yet. The
+/// plan holds the place of the MESH word, counted from 0, or the number of `grid`. It takes memory for one command of
+/// `clap` and what that finds in at most eight words.
 pub fn read_words(alloc: Global, words: &[String]) -> Result<Plan, WordsFault>
     ensures plan { IfOk result (λ plan. plan_of (texts_of words.now) ≡ Some plan) }
     ensures usage { IfErr result (λ fault. fault ≡ WordsFault.Usage → plan_of (texts_of words.now) ≡ None) }
-    // its place is one of a word, its numbers are in their ranges
+    // the MESH word is one of the words, and the numbers are in their ranges
     ensures bounds { IfOk result (IsInBounds (length words.now)) }
 {
     if MOST_WORDS < words.len() {

@@ -4,6 +4,16 @@ use crate::{Build, Input, Plan, WordsFault, read_words};
 use std::process::Abort;
 use std::test::Fail;
 
+/// Accepted lists with `grid`: the number of squares and the workers.
+const GRIDS: [(&str, u32, u32); 6] = [
+    ("--grid 512", 512, 4),
+    ("--grid=2", 2, 4),
+    ("--grid 000064 --workers 7", 64, 7),
+    ("--workers=1 --grid 64", 64, 1),
+    ("--build karras --grid 3", 3, 4),
+    ("--build=karras --workers 64 --grid=511", 511, 64),
+];
+
 /// Accepted lists, with one space between two words: the place of the MESH word, the workers and the unit.
 const ACCEPTED: [(&str, u32, u32, u32); 10] = [
     ("a.obj", 0, 4, 64),
@@ -24,7 +34,7 @@ const ACCEPTED: [(&str, u32, u32, u32); 10] = [
 ];
 
 /// Refused lists. Two spaces, or one at an end, stand for a word that is empty.
-const REFUSED: [&str; 52] = [
+const REFUSED: [&str; 60] = [
     "",
     " ",
     "a.obj ",
@@ -49,10 +59,18 @@ const REFUSED: [&str; 52] = [
     "a.obj -workers 2",
     "a.obj -w 2",
     "--grid 1",
-    "--grid 512",
-    "--grid=2",
+    "--grid 513",
+    "--grid 0000512",
+    "--grid +2",
+    "--grid=",
+    "--grid",
+    "--grid a.obj",
+    "--grid 2 --grid 2",
     "--grid 2 a.obj",
+    "a.obj --grid=2",
     "--grid 2 --unit 1",
+    "--grid 2 --unit=64",
+    "--grid 2 --build apetrei",
     "--unit 1",
     "--",
     "-- a.obj",
@@ -87,6 +105,15 @@ fn lists_of_words_make_plans_or_are_refused(rt: HostRuntime) -> Result<(), Fail>
             workers: *workers,
             build: Build::Karras,
             unit: *unit,
+        };
+        comes_to(&rt, line, Ok(plan))?;
+    }
+    for (line, squares, workers) in &GRIDS {
+        let plan = Plan {
+            input: Input::Grid(*squares),
+            workers: *workers,
+            build: Build::Karras,
+            unit: 64,
         };
         comes_to(&rt, line, Ok(plan))?;
     }

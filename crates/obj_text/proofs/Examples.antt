@@ -1,7 +1,8 @@
--- Worked texts, tried on the definition alone.
+-- Worked texts and a worked height field, tried on the definitions alone.
 use Rattle.std.proofs.Common.{◌≡◌, [], ◌∷◌, ◌++◌, refl, Ok, Err, pos, negsuc}
-use Rattle.std.specs.Prelude.{codes}
+use Rattle.std.specs.Prelude.{codes, map}
 use Rattle.obj_text.specs.Texts.{mesh_of}
+use Rattle.obj_text.specs.HeightFields.{height_at, vertex_at, row_points, field_points, square_faces, row_faces, field_faces}
 use Rattle.obj_text.specs.declared.fault.Why.TheVariants.{NoSuchVertex, BadReference, TooFewWords}
 
 -- a triangle at 64 grid steps to the unit, in a named group; a line that goes on, a comment and a blank line
@@ -37,3 +38,22 @@ first_fault = refl
 -- a comment ends a line, whatever its last byte
 comment_ends_the_line : mesh_of 1 (codes "v 0 0 #\\" ++ 10 ∷ codes "0") ≡ Err (record { line = 1; why = TooFewWords })
 comment_ends_the_line = refl
+
+-- the heights and the triangles of two squares a side, and a height that passes its limit
+heights_of_two : map (λ point. point.z) (field_points 2) ≡ map pos (0 ∷ 73 ∷ 146 ∷ 151 ∷ 253 ∷ 355 ∷ 302 ∷ 433 ∷ 564 ∷ [])
+unfolding field_points row_points vertex_at
+heights_of_two = refl
+
+last_point_of_two : vertex_at 2 2 ≡ record { x = negsuc 65023; y = negsuc 65023; z = pos 564 }
+unfolding vertex_at
+last_point_of_two = refl
+
+faces_of_two
+    : map (λ face. face.a ∷ face.b ∷ face.c ∷ []) (field_faces 2)
+    ≡ (0 ∷ 1 ∷ 4 ∷ []) ∷ (0 ∷ 4 ∷ 3 ∷ []) ∷ (1 ∷ 2 ∷ 5 ∷ []) ∷ (1 ∷ 5 ∷ 4 ∷ [])
+    ∷ (3 ∷ 4 ∷ 7 ∷ []) ∷ (3 ∷ 7 ∷ 6 ∷ []) ∷ (4 ∷ 5 ∷ 8 ∷ []) ∷ (4 ∷ 8 ∷ 7 ∷ []) ∷ []
+unfolding field_faces row_faces square_faces
+faces_of_two = refl
+
+height_past_the_limit : height_at 8 8 ≡ 576
+height_past_the_limit = refl

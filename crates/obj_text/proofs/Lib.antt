@@ -15,4 +15,6 @@ pub mod TrianglesBefore
 pub mod AppendedParts
 pub mod GroupNames
 pub mod SectionLists
+pub mod HeightFields
+pub mod FieldMeshes
 mod Examples

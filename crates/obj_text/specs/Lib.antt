@@ -6,3 +6,4 @@ pub mod Steps
 pub mod Parts
 pub mod Ahead
 pub mod Sections
+pub mod HeightFields

@@ -9,6 +9,7 @@ mod face;
 mod fault;
 mod gathered;
 mod groups;
+mod height_field;
 mod limits;
 mod line_fault;
 mod mesh;
@@ -24,7 +25,8 @@ mod vertex_count;
 pub use decimals::{GREATEST, MOST_DIGITS, NumberFault, grid, whole};
 pub use face::Face;
 pub use fault::{MeshFault, Why};
-pub use limits::{MOST_BYTES, MOST_FACES, MOST_POINTS};
+pub use height_field::{FIELD_CORNER, FIELD_SPACING, grid_mesh};
+pub use limits::{LEAST_GRID, MOST_BYTES, MOST_FACES, MOST_GRID, MOST_POINTS};
 pub use mesh::Mesh;
 pub use read::{read_mesh, read_mesh_joined};
 

@@ -14,12 +14,8 @@ fn read_text(rt: &impl Abort, alloc: Global, text: &[u8], unit: u32) -> Result<M
     read_mesh(alloc, text, unit)
 }
 
-/// What a text gives, as text: its points, then each face with its group's name; or its fault.
-fn shown(rt: &impl Abort, alloc: Global, text: &[u8], unit: u32) -> Result<String, AllocError> {
-    let mesh = match read_text(rt, alloc, text, unit) {
-        Ok(mesh) => mesh,
-        Err(fault) => return format!(in alloc; "{fault}"),
-    };
+/// A mesh, as text: its points, then each face with its group's name.
+fn mesh_shown(rt: &impl Abort, alloc: Global, mesh: &Mesh) -> Result<String, AllocError> {
     let mut shown = String::new(alloc);
     for point in mesh.points() {
         let one = format!(in alloc; "({} {} {})", point.x, point.y, point.z)?;
@@ -37,6 +33,14 @@ fn shown(rt: &impl Abort, alloc: Global, text: &[u8], unit: u32) -> Result<Strin
         shown.push_str(one.as_str())?;
     }
     Ok(shown)
+}
+
+/// What a text gives, as text: its mesh, or its fault.
+fn shown(rt: &impl Abort, alloc: Global, text: &[u8], unit: u32) -> Result<String, AllocError> {
+    match read_text(rt, alloc, text, unit) {
+        Ok(mesh) => mesh_shown(rt, alloc, &mesh),
+        Err(fault) => format!(in alloc; "{fault}"),
+    }
 }
 
 fn all_shown(
@@ -393,4 +397,25 @@ fn number_words_are_passed_on(rt: HostRuntime) {
     assert_eq!(rt; grid(b"6.500000", 64), Ok(416));
     assert_eq!(rt; grid(b"6.5.0", 64), Err(NumberFault::NotANumber));
     assert_eq!(rt; whole(b"007"), Ok(7));
+}
+
+/// Each height is worked out by hand; the greatest field finds memory, and one of its heights passes the limit.
+#[test]
+fn a_height_field_is_made_of_squares(rt: HostRuntime) -> Result<(), Fail> {
+    let mesh = grid_mesh(rt.alloc(), 2).ok().expect(&rt, "memory");
+    let shown = mesh_shown(&rt, rt.alloc(), &mesh)?;
+    assert_eq!(rt;
+        shown.as_str(),
+        "(-65536 -65536 0)(-65280 -65536 73)(-65024 -65536 146)\
+         (-65536 -65280 151)(-65280 -65280 253)(-65024 -65280 355)\
+         (-65536 -65024 302)(-65280 -65024 433)(-65024 -65024 564) \
+         grid[0 1 4] grid[0 4 3] grid[1 2 5] grid[1 5 4] grid[3 4 7] grid[3 7 6] grid[4 5 8] grid[4 8 7]"
+    );
+
+    let mesh = grid_mesh(rt.alloc(), MOST_GRID).ok().expect(&rt, "memory");
+    assert_eq!(rt; mesh.points().len(), 263_169);
+    assert_eq!(rt; mesh.faces().len(), 524_288);
+    let point = mesh.points().get(8 * 513 + 8).expect(&rt, "a point");
+    assert_eq!(rt; point.z, 576);
+    Ok(())
 }

@@ -1,9 +1,8 @@
 //! The words of the command line, as a run takes them.
 
-ghost use Rattle.std.specs.Prelude.{◌≡◌, ◌≤◌, ◌<◌, [], Some, None, IfOk, IfErr, length, slice_index_or};
+ghost use Rattle.std.specs.Prelude.{◌≡◌, ◌≤◌, Some, None, IfOk, IfErr};
 ghost use Rattle.fixed_box.specs.declared.shapes.TheConstants.{UNIT_MAX};
 ghost use Rattle.command_line.specs.Items.{texts_of};
-ghost use Rattle.command_line.specs.Plans.{place_of};
 ghost use Rattle.world_engine.specs.Words.{opening, opening_of};
 
 use command_line::{Input, MOST_WORKERS, Plan, WordsFault, read_words};
@@ -17,7 +16,6 @@ pub struct Opening<'a> {
 }
 
 /// What the words say is to be opened.
-#[tactic(auto, using(crate::proofs::OpenedWords::plan_opens, crate::proofs::OpenedWords::opens_nothing))]
 pub fn read_opening<'a>(alloc: Global, words: &'a [String]) -> Result<Opening<'a>, WordsFault>
     ensures opening { IfOk result (λ found. Some (opening found.name.now found.plan.unit) ≡ opening_of (texts_of words.now)) }
     ensures usage { IfErr result (λ fault. fault ≡ WordsFault.Usage → opening_of (texts_of words.now) ≡ None) }
@@ -26,22 +24,12 @@ pub fn read_opening<'a>(alloc: Global, words: &'a [String]) -> Result<Opening<'a
     ensures some_unit { IfOk result (λ found. 1 ≤ found.plan.unit) }
     ensures small_unit { IfOk result (λ found. found.plan.unit ≤ UNIT_MAX) }
 {
-    match read_words(alloc, words) {
-        Ok(plan) => Ok(Opening {
-            name: named(words, plan.input),
+    let plan = read_words(alloc, words)?;
+    match plan.input {
+        Input::File(place) => Ok(Opening {
+            name: words[place as usize].as_str(),
             plan,
         }),
-        Err(fault) => Err(fault),
-    }
-}
-
-/// The word that names the mesh.
-#[tactic(auto, using(crate::proofs::OpenedWords::word_text))]
-fn named(words: &[String], input: Input) -> &str
-    requires { place_of input < length words.now }
-    ensures { result.now ≡ slice_index_or (texts_of words.now) (place_of input) [] }
-{
-    match input {
-        Input::File(place) => words[place as usize].as_str(),
+        Input::Grid(_) => Err(WordsFault::Usage),
     }
 }
