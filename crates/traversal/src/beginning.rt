@@ -8,7 +8,7 @@ ghost use Rattle.radix_tree.specs.Filling.{IsChild};
 use radix_tree::{Child, Tree};
 
 /// The whole tree as a child, if it has a key.
-pub(crate) fn root(t: &Tree) -> Option<Child>
+pub fn root(t: &Tree) -> Option<Child>
     ensures none { result ≡ None → length t.now.keys ≡ 0 }
     ensures child { IfSome result (IsChild t.now) }
     ensures range { IfSome result (λ child. HasRange t.now.keys child 0 (length t.now.keys - 1)) }
