@@ -3,7 +3,7 @@ use Rattle.std.proofs.Common.{◌≡◌, ℕ, ◌+◌, ◌<◌, refl, sym, arith
 use Rattle.fixed_box.specs.declared.shapes.Box3.{Box3}
 use Rattle.walk_list.specs.declared.records.Leaf.{Leaf}
 use Rattle.walk_list.specs.declared.records.Record.{Record}
-use Rattle.walk_list.specs.Covering.{Bounds, CoversBy, run, fork}
+use Rattle.walk_list.specs.Covering.{Bounds, Covers, CoversAll, CoversBy, run, fork}
 
 -- what is behind a front
 pub drop_front : (xs ys : List Record) → drop (length xs) (xs ++ ys) ≡ ys
@@ -71,3 +71,8 @@ pub covers_order : (leaves : List Leaf) (rs : List Record) (a b : ℕ) → Cover
 covers_order leaves [] a b h = elim h [ ]
 covers_order leaves (r ∷ []) a b (run one end here) = here.order
 covers_order leaves (r ∷ rs) a b (fork left right middle parts escape end here on_left on_right) = here.order
+
+-- records that cover all leaves are a whole list
+pub whole_list : (leaves : List Leaf) (rs : List Record) → Covers leaves rs 0 (length leaves) → CoversAll leaves rs
+whole_list leaves [] c = absurd (omega (arith, covers_some (Bounds leaves) [] 0 (length leaves) c))
+whole_list leaves (r ∷ rs) c = c

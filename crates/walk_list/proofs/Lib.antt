@@ -8,3 +8,7 @@ pub mod Shut
 pub mod Visiting
 pub mod LookedAt
 pub mod Scenes
+pub mod Mended
+pub mod Halving
+pub mod Moved
+pub mod Refits

@@ -22,7 +22,7 @@ use Rattle.walk_list.specs.declared.records.Record.{Record}
 use Rattle.walk_list.specs.Leaves.{leaf_of, leaves_of, no_leaf, leaf_at}
 use Rattle.walk_list.specs.Covering.{Bounds, Covers, CoversAll, run, fork}
 use Rattle.walk_list.specs.Parts.{HoldsLeaves, IsPart}
-use Rattle.walk_list.proofs.Coverings.{covers_some}
+use Rattle.walk_list.proofs.Coverings.{whole_list}
 
 -- the record that was put before two parts, written again
 set_own : (old l r : List Record) (blank own : Record) →
@@ -239,11 +239,7 @@ leaf_for_child t leaves child p x holds stands is read before after h a b d =
     (subst (λ z. IsPart leaves p (z + 1) before after) range.1
     (h leaves p (subst (λ (l : Leaf). Bounds leaves l.fit p (p + 1)) read bounds) (omega arith)))
 
--- records that cover all leaves are a whole list
-whole_list : (leaves : List Leaf) (rs : List Record) → Covers leaves rs 0 (length leaves) → CoversAll leaves rs
-whole_list leaves [] c = absurd (omega (arith, covers_some (Bounds leaves) [] 0 (length leaves) c))
-whole_list leaves (r ∷ rs) c = c
-
+-- the records of all leaves are a whole list
 pub whole_covers : (leaves : List Leaf) (e : ℕ) (before after : List Record) → IsPart leaves 0 e before after →
     before ≡ [] → e ≡ length leaves → CoversAll leaves after
 whole_covers leaves e before after p empty end =

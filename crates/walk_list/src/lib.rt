@@ -9,6 +9,8 @@ mod collecting;
 mod list;
 mod listing;
 mod meeting;
+mod mending;
+mod moving;
 mod nearest_hit;
 mod overlapping;
 mod reaching;
