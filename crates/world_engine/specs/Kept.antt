@@ -33,19 +33,20 @@ pub record IsFittedTo (index : Index) (now : List Point) (faces : List Face) : T
   pub nodes : index.tree.nodes ≡ table_of (order_of (boxes_at index.built.value.items faces)) (boxes_at now faces)
   pub fits : IsFitted index.tree index.boxes.items
 
--- a box and a key for each face, the box right where no corner was moved; a tree over the order of the points of the
--- build, which is fitted where no vertex was moved; and the chains of triangles at the vertices, if they were needed yet
+-- a box and a key for each face, the box right where no corner is marked as moved; a tree over the order of the points
+-- of the build, which is fitted where no vertex is marked; and the chains of triangles at the vertices, once needed
 pub record IsIndex (index : Index) (now : List Point) (faces : List Face) : Type 0 where
   pub boxes : length index.boxes.items ≡ length faces
   pub triangles : length index.tree.keys ≡ length faces
   pub keys : index.tree.keys ≡ order_of (boxes_at index.built.value.items faces)
   pub vertices : index.marks.vertices ≡ length now
-  pub right : (t : ℕ) → t < length faces → IsStill index.marks.moved (face_at faces t) → IsRight now faces index.boxes.items t
+  pub right : (t : ℕ) → t < length faces → IsStill index.marks.moved (face_at faces t) →
+      IsRight now faces index.boxes.items t
   pub fitted : index.marks.moved ≡ [] → IsFittedTo index now faces
   pub fans : IfSome index.fans (λ fans. AreFans fans faces (length now))
 
 -- faces over points of the world, and an index over them, in which no vertex is marked where none was moved since the
--- last fit
+-- world was opened, refitted or built anew
 pub record IsKept (mesh : MeshLists) (now : List Point) (kept : Index) (at_rest : Bool) : Type 0 where
   pub in_world : All InWorld now
   pub few : length now ≤ MOST_POINTS
