@@ -1,0 +1,9 @@
+pub mod Prefixes
+pub mod Runs
+pub mod Parting
+pub mod SharedBits
+pub mod EdgeLaws
+pub mod Walking
+pub mod Tails
+pub mod EdgeSums
+mod Examples

@@ -1,0 +1,112 @@
+-- The cells of a range are those of its two parts; at a level that the range does not share each part stands alone.
+use Rattle.std.proofs.Common.{◌≡◌, ℕ, suc, zero, ◌+◌, ◌-◌, ◌<◌, ◌≤◌, sym, ap, ◌∙◌, arith, List, [], ◌∷◌, ◌++◌, length, append_assoc, cond}
+use Rattle.morton_key.specs.declared.keys.Key.{Key}
+use Rattle.morton_key.specs.declared.keys.TheConstants.{LEVELS}
+use Rattle.morton_key.specs.Keys.{IsLawful}
+use Rattle.radix_tree.specs.Split.{split}
+use Rattle.radix_tree.specs.Ranges.{IsRange}
+use Rattle.radix_tree.proofs.SplitLaws.{split_laws}
+use Rattle.radix_tree.proofs.RangeLaws.{range_laws}
+use Rattle.octree_cells.specs.declared.cell.Cell.{Cell}
+use Rattle.octree_cells.specs.Cells.{is_cell_at, cell_at, cells_from}
+use Rattle.octree_cells.specs.Edges.{shared_level, IsApart, cells_in}
+use Rattle.octree_cells.proofs.Prefixes.{prefixes_differ, prefix_from_shared, shared_from_gap}
+use Rattle.octree_cells.proofs.Runs.{IsRun}
+
+-- so many positions and then others
+cells_from-add : (keys : List Key) (level i m n : ℕ) →
+    cells_from keys level i (m + n) ≡ cells_from keys level i m ++ cells_from keys level (i + m) n
+unfolding cells_from
+cells_from-add keys level i zero n =
+    let none : zero + n ≡ n = omega arith in
+    let here : i ≡ i + zero = omega arith in
+    ap (cells_from keys level i) none ∙ ap (λ k. cells_from keys level k n) here
+cells_from-add keys level i (suc m) n =
+    let more : suc m + n ≡ suc (m + n) = omega arith in
+    let there : suc i + m ≡ i + suc m = omega arith in
+    let own : List Cell = cond (is_cell_at keys level i) (cell_at keys level i ∷ []) [] in
+    ap (cells_from keys level i) more
+    ∙ (ap (λ xs. own ++ xs) (cells_from-add keys level (suc i) m n
+    ∙ ap (λ k. cells_from keys level (suc i) m ++ cells_from keys level k n) there)
+    ∙ sym (append_assoc own (cells_from keys level (suc i) m) (cells_from keys level (i + suc m) n)))
+
+-- the cells of a range, from those of its parts
+pub cells_in-parted : (keys : List Key) (level a s b : ℕ) → a ≤ s → s < b →
+    cells_in keys level a b ≡ cells_in keys level a s ++ cells_in keys level (s + 1) b
+unfolding cells_in
+cells_in-parted keys level a s b low high =
+    let count : suc b - a ≡ suc s - a + (suc b - (s + 1)) = omega arith in
+    let there : a + (suc s - a) ≡ s + 1 = omega arith in
+    ap (cells_from keys level a) count
+    ∙ (cells_from-add keys level a (suc s - a) (suc b - (s + 1))
+    ∙ ap (λ k. cells_from keys level a (suc s - a) ++ cells_from keys level k (suc b - (s + 1))) there)
+
+module _ (keys : List Key) (ok : IsLawful keys) (level : ℕ) (deep : level ≤ LEVELS) where
+  -- the two sides of a split share no more than the whole range
+  middle_differs : (a b s : ℕ) → a < b → b < length keys → split keys a b ≡ s → shared_level keys a b < level →
+      shared_level keys s (suc s) < level
+  middle_differs a b s lt h e less =
+      let q = split_laws keys ok a b s lt h e in
+      omega (
+        arith,
+        less,
+        shared_from_gap keys ok s (suc s) a b (omega (arith, q.high)) (omega (arith, q.high)) (omega arith) h
+            (omega (arith, q.middle)),
+      )
+
+  -- so at a level that the range does not share the left part stands alone
+  pub left_apart : (a b s : ℕ) → a < b → b < length keys → split keys a b ≡ s → shared_level keys a b < level →
+      IsApart keys level a b → IsApart keys level a s
+  left_apart a b s lt h e less apart =
+      let q = split_laws keys ok a b s lt h e in
+      record {
+        before = apart.before;
+        after = λ _. prefixes_differ keys ok level deep s (suc s) (omega (arith, q.high)) (omega (arith, q.high))
+            (middle_differs a b s lt h e less);
+      }
+
+  -- and the right one
+  pub right_apart : (a b s : ℕ) → a < b → b < length keys → split keys a b ≡ s → shared_level keys a b < level →
+      IsApart keys level a b → IsApart keys level (s + 1) b
+  right_apart a b s lt h e less apart =
+      let q = split_laws keys ok a b s lt h e in
+      let here : s + 1 - 1 ≡ s = omega arith in
+      let next : s + 1 ≡ suc s = omega arith in
+      record {
+        before = λ _. rw (here, next) (prefixes_differ keys ok level deep s (suc s) (omega (arith, q.high))
+            (omega (arith, q.high)) (middle_differs a b s lt h e less));
+        after = apart.after;
+      }
+
+  -- a range of the tree stands alone at each level that it does not share
+  pub range_apart : (a b : ℕ) → IsRange keys a b → shared_level keys a b < level → IsApart keys level a b
+  range_apart a b r less =
+      let p = range_laws keys ok r in
+      record {
+        before = λ pos. prefixes_differ keys ok level deep (a - 1) a (omega (arith, p.order, p.within))
+            (omega (arith, p.order, p.within))
+            (omega (
+              arith,
+              less,
+              shared_from_gap keys ok (a - 1) a a b (omega (arith, p.order, p.within))
+                  (omega (arith, p.order, p.within)) (omega (arith, p.order, p.within)) p.within
+                  (omega (arith, p.before pos)),
+            ));
+        after = λ more. prefixes_differ keys ok level deep b (suc b) p.within more
+            (omega (
+              arith,
+              less,
+              shared_from_gap keys ok b (suc b) a b p.within more (omega (arith, p.order, p.within)) p.within
+                  (omega (arith, p.after more)),
+            ));
+      }
+
+  -- a range that shares the level, and stands alone, is a run
+  pub run_from_shared : (a b : ℕ) → a ≤ b → b < length keys → level ≤ shared_level keys a b →
+      IsApart keys level a b → IsRun keys level a b
+  run_from_shared a b le h shared apart = record {
+    order = le;
+    within = h;
+    shared = prefix_from_shared keys ok level deep a b (omega arith) h shared;
+    apart = apart;
+  }
