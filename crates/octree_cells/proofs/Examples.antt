@@ -29,7 +29,8 @@ unfolding cells_of cells_from cell_at is_cell_at last_with keys_with prefix_at p
 the_world = refl
 
 of_all_levels : cell_count_of alike ≡ 19
-unfolding cell_count_of cells_to cells_of cells_from cell_at is_cell_at last_with keys_with prefix_at prefix_of code_at key_at
+unfolding cell_count_of cells_to cells_of cells_from cell_at is_cell_at last_with keys_with prefix_at prefix_of code_at
+    key_at
 of_all_levels = refl
 
 -- the octants 0, 0, 5, 5, 7 of the first level
@@ -45,7 +46,8 @@ unfolding cells_of cells_from cell_at is_cell_at last_with keys_with prefix_at p
 a_single_key_is_no_cell = refl
 
 of_one_key : cell_count_of (record { code = 48; tri = 1 } ∷ []) ≡ 0
-unfolding cell_count_of cells_to cells_of cells_from cell_at is_cell_at last_with keys_with prefix_at prefix_of code_at key_at
+unfolding cell_count_of cells_to cells_of cells_from cell_at is_cell_at last_with keys_with prefix_at prefix_of code_at
+    key_at
 of_one_key = refl
 
 of_no_key : cell_count_of [] ≡ 0

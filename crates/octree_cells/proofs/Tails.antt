@@ -53,7 +53,8 @@ module _ (keys : List Key) (ok : IsLawful keys) where
       let there : suc level + more ≡ level + suc more = omega arith in
       let own = ap length (cells_of_run keys ok (suc level) (omega arith) a b
       (run (suc level) (omega arith) (omega arith)) lt) in
-      let others = tail-edge (suc level) more count a b (omega arith) lt h (λ l gt le. run l (omega arith) (omega arith)) in
+      let others = tail-edge (suc level) more count a b (omega arith) lt h
+      (λ l gt le. run l (omega arith) (omega arith)) in
       omega (
         arith,
         ap (λ n. tail keys level n a b) next,

@@ -120,7 +120,8 @@ module _ (t : Contents) (table : IsTable t) (level : ℕ) (deep : level ≤ LEVE
         ap (λ ks. shared_level ks x.first x.last) same ∙ ap (λ y. shared_level t.keys y.first y.last) e
 
     -- and its cell is the table's node's
-    pub read_cell : (x : Node) → x ≡ node → cell_over t.keys level x.first x.last ≡ cell_over t.keys level node.first node.last
+    pub read_cell : (x : Node) → x ≡ node →
+        cell_over t.keys level x.first x.last ≡ cell_over t.keys level node.first node.last
     read_cell x e = ap (λ y. cell_over t.keys level y.first y.last) e
 
     split_is : split t.keys node.first node.last ≡ node.split

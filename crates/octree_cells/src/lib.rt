@@ -1,6 +1,6 @@
 //! The octree that lies in a radix tree: cells of the world that hold the centres of two or more triangles' boxes.
 //!
-//! A cell is the prefix of a code, so the cells of all levels are read from the edges of the tree, and nothing is built.
+//! A cell is the prefix of a code, so the cells of all levels are read from the edges of the tree; nothing is built.
 #![tactic(auto)]
 
 mod cell;

@@ -1,11 +1,11 @@
 //! Cells worked by hand, and those of many boxes with few codes, at each level, against a pass over all prefixes.
 
-ghost use Rattle.std.specs.Prelude.{◌≡◌, ◌<◌, All, IfOk, vec_len, ◌≤ℤ◌, ◌<ℤ◌, pos, negsuc};
+ghost use Rattle.std.specs.Prelude.{◌≡◌, ◌^◌, ◌≤◌, length, All, IfOk, vec_len, ◌≤ℤ◌, ◌<ℤ◌, pos, negsuc};
 ghost use Rattle.fixed_box.specs.World.{BoxInWorld};
 
 use crate::{Cell, CellList, cells, count};
 use fixed_box::{Box3, Point};
-use morton_key::{Key, LEVELS, order};
+use morton_key::{Key, LEVELS, POSITION_WIDTH, order};
 use radix_tree::{Tree, plain};
 use std::alloc::{AllocError, Global};
 use std::rt::HostRuntime;
@@ -14,7 +14,7 @@ use std::test::Fail;
 /// The tree of the triangles with these boxes.
 fn tree(alloc: Global, boxes: &[Box3]) -> Result<Tree, Fail>
     requires world { All BoxInWorld boxes.now }
-    requires few { length boxes.now < 2 ^ 20 }
+    requires few { length boxes.now ≤ 2 ^ POSITION_WIDTH }
 {
     let keys = order(alloc, boxes)?;
     Ok(plain(alloc, keys, boxes)?)
@@ -158,36 +158,40 @@ fn prefix(key: &Key, level: u32) -> u64 {
     prefix
 }
 
-/// The cells of a level, by a count of the keys that have each key's prefix.
-fn cells_by_counting(alloc: Global, keys: &[Key], level: u32) -> Result<Vec<Cell>, AllocError> {
+/// The cells of a level, by a pass over the prefixes, of which each keeps its first and its last position.
+fn cells_by_passing(alloc: Global, keys: &[Key], level: u32) -> Result<Vec<Cell>, AllocError> {
     let mut found: Vec<Cell> = Vec::new(alloc);
-    for (position, key) in keys.iter().enumerate() {
+    let mut position = 0u32;
+    for key in keys {
         let own = prefix(key, level);
-        let sharing = keys.iter().filter(|k| prefix(k, level) == own).count();
-        let is_listed = found.iter().any(|cell| cell.prefix == own);
-        if sharing > 1 && !is_listed {
+        let count = found.len();
+        if count > 0 && found[count - 1].prefix == own {
+            found[count - 1].last = position;
+        } else {
             found.push(Cell {
                 level,
                 prefix: own,
-                first: position as u32,
-                last: (position + sharing - 1) as u32,
+                first: position,
+                last: position,
             })?;
         }
+        position = position.wrapping_add(1);
     }
+    found.retain(|cell| cell.first < cell.last);
     Ok(found)
 }
 
 #[test]
-fn three_hundred_boxes_have_the_cells_that_a_count_over_prefixes_finds(
+fn three_hundred_boxes_have_the_cells_that_a_pass_over_prefixes_finds(
     rt: HostRuntime,
 ) -> Result<(), Fail> {
     let boxes = scattered(rt.alloc())?;
     let t = tree(rt.alloc(), &boxes)?;
-    let mut all = 0;
+    let mut all = 0u64;
     for level in 0..LEVELS + 1 {
-        let expected = cells_by_counting(rt.alloc(), t.keys(), level)?;
+        let expected = cells_by_passing(rt.alloc(), t.keys(), level)?;
         assert_eq!(rt; cells(rt.alloc(), &t, level)?.items(), expected.as_slice());
-        all += expected.len() as u64;
+        all = all.wrapping_add(expected.len() as u64);
     }
     assert_eq!(rt; count(&t), all);
     Ok(())

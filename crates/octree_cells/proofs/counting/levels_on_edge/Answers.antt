@@ -7,7 +7,8 @@ use Rattle.octree_cells.proofs.counting.levels_on_edge.Goals as goal
 pub returns-then-first-last-clause-value : goal.returns-then-first-last-clause-value
 unfolding edge_levels
 returns-then-first-last-clause-value c =
-    sym (cond-true (c.args.first == c.args.last) 0 (shared_level c.args.keys.now c.args.first c.args.last - c.args.above)
+    sym (cond-true (c.args.first == c.args.last) 0
+    (shared_level c.args.keys.now c.args.first c.args.last - c.args.above)
     (eq-eqb c.args.first c.args.last c.if-first-last.true))
 
 pub returns-else-first-last-clause-value : goal.returns-else-first-last-clause-value

@@ -12,7 +12,8 @@ shared_level-requires-clause-first c =
     let read = read_is t table c.args.level c.requires.level c.args.number c.requires.number c.nodes.result.now
     c.index-nodes-number.result c.nodes.ensures.nodes c.index-nodes-number.is in
     subst (λ ks. c.index-nodes-number.result.first < length ks) (sym c.keys-keys.ensures.keys)
-    (first_within t table c.args.level c.requires.level c.args.number c.requires.number c.index-nodes-number.result read)
+    (first_within t table c.args.level c.requires.level c.args.number c.requires.number c.index-nodes-number.result
+    read)
 
 pub shared_level-requires-clause-second : goal.shared_level-requires-clause-second
 shared_level-requires-clause-second c =
@@ -30,7 +31,8 @@ bounds-keys-first c =
     let read = read_is t table c.args.level c.requires.level c.args.number c.requires.number c.nodes.result.now
     c.index-nodes-number.result c.nodes.ensures.nodes c.index-nodes-number.is in
     subst (λ ks. c.index-nodes-number.result.first < length ks) (sym c.keys-keys.ensures.keys)
-    (first_within t table c.args.level c.requires.level c.args.number c.requires.number c.index-nodes-number.result read)
+    (first_within t table c.args.level c.requires.level c.args.number c.requires.number c.index-nodes-number.result
+    read)
 
 pub returns-then-shared_level-level-clause-none : goal.returns-then-shared_level-level-clause-none
 returns-then-shared_level-level-clause-none c = λ _.
