@@ -16,13 +16,13 @@ use Rattle.radix_tree.proofs.NumberLaws.{proper, range_of_node}
 use Rattle.radix_tree.proofs.NodeLaws.{node_within, right_node, root_node}
 use Rattle.radix_tree.proofs.RowLaws.{node_is}
 use Rattle.radix_tree.proofs.DescentLaws.{row_range}
-use Rattle.octree_cells.specs.Cells.{cells_of, cells_to, cell_count_of}
+use Rattle.octree_cells.specs.CellsOf.{cells_of, cells_to, cell_count_of}
 use Rattle.octree_cells.specs.Edges.{shared_level, IsApart, edge_levels, node_levels}
 use Rattle.octree_cells.proofs.Prefixes.{shared_most, shared_from_gap}
 use Rattle.octree_cells.proofs.Runs.{cells_of_run}
-use Rattle.octree_cells.proofs.Parting.{left_apart, right_apart, range_apart, run_from_shared}
+use Rattle.octree_cells.proofs.Parting.{left_apart, right_apart, range_apart, run_from_shared, cells_of-whole, whole_apart}
 use Rattle.octree_cells.proofs.EdgeLaws.{edge-leaf, edge-inner}
-use Rattle.octree_cells.proofs.Walking.{cells_of-whole, whole_apart, no_cells}
+use Rattle.octree_cells.proofs.Walking.{no_cells}
 use Rattle.octree_cells.proofs.Tails.{tail, tail-parted, all_below_leaf, all_below_edge, cells_to-tail, cells_to-shared, cells_to-none}
 
 module _ (t : Contents) (table : IsTable t) where
@@ -165,16 +165,16 @@ module _ (t : Contents) (table : IsTable t) where
       let root = root_node t.keys table.lawful last refl (omega (arith, table.count)) in
       let levels : shared + (LEVELS - shared) ≡ LEVELS = omega arith in
       let one : (l : ℕ) → l ≤ shared → length (cells_of t.keys l) ≡ 1 = λ l le.
-      ap length (cells_of-whole t l (omega arith)
+      ap length (cells_of-whole t.keys l (omega arith)
       ∙ cells_of_run t.keys table.lawful l (omega arith) 0 last
-      (run_from_shared t.keys table.lawful l (omega arith) 0 last (omega arith) inside le (whole_apart t l))
+      (run_from_shared t.keys table.lawful l (omega arith) 0 last (omega arith) inside le (whole_apart t.keys l))
       (omega (arith, table.count))) in
       omega (
         arith,
         summed last 0 0 last (omega arith) root,
         one_more 0 some,
         ap (sum_by (node_levels t.keys)) (take_all last t.nodes (omega (arith, table.count))),
-        cells_to-tail t.keys last shared (LEVELS - shared) (λ l. cells_of-whole t l (omega arith)),
+        cells_to-tail t.keys last shared (LEVELS - shared) (λ l. cells_of-whole t.keys l (omega arith)),
         cells_to-shared t.keys shared one,
         ap (cells_to t.keys) levels,
       )

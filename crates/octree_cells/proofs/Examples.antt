@@ -3,7 +3,8 @@ use Rattle.std.proofs.Common.{◌≡◌, ℕ, refl, List, [], ◌∷◌}
 use Rattle.morton_key.specs.declared.keys.Key.{Key}
 use Rattle.morton_key.specs.Keys.{code_at, key_at}
 use Rattle.octree_cells.specs.declared.cell.Cell.{Cell}
-use Rattle.octree_cells.specs.Cells.{prefix_of, prefix_at, keys_with, last_with, is_cell_at, cell_at, cells_from, cells_of, cells_to, cell_count_of}
+use Rattle.octree_cells.specs.Cells.{prefix_of, prefix_at}
+use Rattle.octree_cells.specs.CellsOf.{keys_with, last_with, is_cell_at, cell_at, cells_from, cells_of, cells_to, cell_count_of}
 
 -- two keys with the code 7 * 2 ^ 51 + 48
 abbrev alike : List Key

@@ -1,6 +1,7 @@
 pub mod Prefixes
 pub mod Runs
 pub mod Parting
+pub mod CellLaws
 pub mod SharedBits
 pub mod EdgeLaws
 pub mod Walking

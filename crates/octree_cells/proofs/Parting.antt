@@ -8,7 +8,8 @@ use Rattle.radix_tree.specs.Ranges.{IsRange}
 use Rattle.radix_tree.proofs.SplitLaws.{split_laws}
 use Rattle.radix_tree.proofs.RangeLaws.{range_laws}
 use Rattle.octree_cells.specs.declared.cell.Cell.{Cell}
-use Rattle.octree_cells.specs.Cells.{is_cell_at, cell_at, cells_from}
+use Rattle.octree_cells.specs.Cells.{prefix_at}
+use Rattle.octree_cells.specs.CellsOf.{is_cell_at, cell_at, cells_from, cells_of}
 use Rattle.octree_cells.specs.Edges.{shared_level, IsApart, cells_in}
 use Rattle.octree_cells.proofs.Prefixes.{prefixes_differ, prefix_from_shared, shared_from_gap}
 use Rattle.octree_cells.proofs.Runs.{IsRun}
@@ -43,7 +44,7 @@ cells_in-parted keys level a s b low high =
 
 module _ (keys : List Key) (ok : IsLawful keys) (level : ℕ) (deep : level ≤ LEVELS) where
   -- the two sides of a split share no more than the whole range
-  middle_differs : (a b s : ℕ) → a < b → b < length keys → split keys a b ≡ s → shared_level keys a b < level →
+  pub middle_differs : (a b s : ℕ) → a < b → b < length keys → split keys a b ≡ s → shared_level keys a b < level →
       shared_level keys s (suc s) < level
   middle_differs a b s lt h e less =
       let q = split_laws keys ok a b s lt h e in
@@ -110,3 +111,25 @@ module _ (keys : List Key) (ok : IsLawful keys) (level : ℕ) (deep : level ≤ 
     shared = prefix_from_shared keys ok level deep a b (omega arith) h shared;
     apart = apart;
   }
+
+-- one key that stands alone is a run
+pub one_run : (keys : List Key) (level a b : ℕ) → a ≡ b → b < length keys → IsApart keys level a b →
+    IsRun keys level a b
+one_run keys level a b e h apart =
+    record { order = omega arith; within = h; shared = ap (prefix_at keys level) e; apart = apart }
+
+-- the cells of a level are those of the whole range
+pub cells_of-whole : (keys : List Key) (level : ℕ) → 0 < length keys →
+    cells_of keys level ≡ cells_in keys level 0 (length keys - 1)
+unfolding cells_of cells_in
+cells_of-whole keys level some = let count : length keys ≡ suc (length keys - 1) - 0 = omega arith in
+    ap (cells_from keys level 0) count
+
+-- no key makes no cell
+pub cells_of-empty : (keys : List Key) (level : ℕ) → length keys ≡ 0 → cells_of keys level ≡ []
+unfolding cells_of cells_from
+cells_of-empty keys level e = ap (cells_from keys level 0) e
+
+-- the whole range stands alone
+pub whole_apart : (keys : List Key) (level : ℕ) → IsApart keys level 0 (length keys - 1)
+whole_apart keys level = record { before = λ pos. absurd (omega arith); after = λ more. absurd (omega arith) }

@@ -7,7 +7,8 @@ use Rattle.std.proofs.lemmas.Bool.{cases_eq, cases_lt, eq-eqb, ne_eqb, lt-ltb, l
 use Rattle.morton_key.specs.declared.keys.Key.{Key}
 use Rattle.morton_key.specs.declared.keys.TheConstants.{LEVELS}
 use Rattle.morton_key.specs.Keys.{key_at, code_at, IsLawful}
-use Rattle.octree_cells.specs.Cells.{prefix_of, prefix_at, keys_with, last_with, is_cell_at, cell_at, cells_from}
+use Rattle.octree_cells.specs.Cells.{prefix_of, prefix_at}
+use Rattle.octree_cells.specs.CellsOf.{keys_with, last_with, is_cell_at, cell_at, cells_from}
 use Rattle.octree_cells.specs.Edges.{IsApart, cells_in, cell_over}
 use Rattle.octree_cells.proofs.Prefixes.{prefix_le}
 
@@ -21,7 +22,7 @@ pub record IsRun (keys : List Key) (level a b : ℕ) : Type 0 where
 module _ (keys : List Key) (ok : IsLawful keys) (level : ℕ) (deep : level ≤ LEVELS) (a b : ℕ)
     (run : IsRun keys level a b) where
   -- the keys of the run have its prefix
-  in_run : (i : ℕ) → a ≤ i → i ≤ b → prefix_at keys level i ≡ prefix_at keys level a
+  pub in_run : (i : ℕ) → a ≤ i → i ≤ b → prefix_at keys level i ≡ prefix_at keys level a
   in_run i low high = omega (
     arith,
     run.shared,
@@ -30,7 +31,7 @@ module _ (keys : List Key) (ok : IsLawful keys) (level : ℕ) (deep : level ≤ 
   )
 
   -- those before it do not
-  before_run : (i : ℕ) → i < a → prefix_at keys level i ≢ prefix_at keys level a
+  pub before_run : (i : ℕ) → i < a → prefix_at keys level i ≢ prefix_at keys level a
   before_run i lt e = run.apart.before (omega arith)
       (omega (
         arith,
@@ -40,7 +41,7 @@ module _ (keys : List Key) (ok : IsLawful keys) (level : ℕ) (deep : level ≤ 
       ))
 
   -- nor do those behind it
-  after_run : (i : ℕ) → b < i → i < length keys → prefix_at keys level i ≢ prefix_at keys level a
+  pub after_run : (i : ℕ) → b < i → i < length keys → prefix_at keys level i ≢ prefix_at keys level a
   after_run i lt h e = run.apart.after (omega arith)
       (omega (
         arith,

@@ -3,7 +3,8 @@ use Rattle.std.proofs.Common.{◌≡◌, ℕ, suc, zero, ◌+◌, ◌-◌, ◌<�
 use Rattle.morton_key.specs.declared.keys.Key.{Key}
 use Rattle.morton_key.specs.declared.keys.TheConstants.{LEVELS}
 use Rattle.morton_key.specs.Keys.{IsLawful}
-use Rattle.octree_cells.specs.Cells.{prefix_at, cells_of, cells_to}
+use Rattle.octree_cells.specs.Cells.{prefix_at}
+use Rattle.octree_cells.specs.CellsOf.{cells_of, cells_to}
 use Rattle.octree_cells.specs.Edges.{shared_level, IsApart, cells_in}
 use Rattle.octree_cells.proofs.Prefixes.{shared_most}
 use Rattle.octree_cells.proofs.Runs.{IsRun, cells_of_run, cells_of_one}

@@ -1,5 +1,5 @@
 -- One step of the walk: what it adds at a leaf, at a cell, and at a node from what it added at the children.
-use Rattle.std.proofs.Common.{◌≡◌, ℕ, suc, ◌+◌, ◌-◌, ◌<◌, ◌≤◌, refl, sym, ap, ◌∙◌, subst, arith, inl, inr, List, [], ◌∷◌, ◌++◌, length, get_or, append-nil, append_assoc}
+use Rattle.std.proofs.Common.{◌≡◌, ℕ, ◌+◌, ◌-◌, ◌<◌, ◌≤◌, refl, sym, ap, ◌∙◌, subst, arith, inl, inr, List, [], ◌∷◌, ◌++◌, length, get_or, append-nil, append_assoc}
 use Rattle.std.proofs.lemmas.Bool.{cases_eq}
 use Rattle.morton_key.specs.declared.keys.TheConstants.{LEVELS}
 use Rattle.morton_key.specs.declared.keys.Key.{Key}
@@ -15,44 +15,22 @@ use Rattle.radix_tree.proofs.NodeLaws.{node_within, root_node}
 use Rattle.radix_tree.proofs.RowLaws.{node_is}
 use Rattle.radix_tree.proofs.DescentLaws.{row_range, child_from_range, span_from_range}
 use Rattle.octree_cells.specs.declared.cell.Cell.{Cell}
-use Rattle.octree_cells.specs.Cells.{prefix_at, cells_of, cells_from}
+use Rattle.octree_cells.specs.CellsOf.{cells_of}
 use Rattle.octree_cells.specs.Edges.{shared_level, IsApart, cell_over, cells_in}
-use Rattle.octree_cells.proofs.Runs.{IsRun, cells_of_run, cells_of_one}
-use Rattle.octree_cells.proofs.Parting.{cells_in-parted, left_apart, right_apart, run_from_shared}
+use Rattle.octree_cells.proofs.Runs.{cells_of_run, cells_of_one}
+use Rattle.octree_cells.proofs.Parting.{cells_in-parted, left_apart, right_apart, run_from_shared, one_run, cells_of-whole, cells_of-empty, whole_apart}
 use Rattle.octree_cells.proofs.EdgeLaws.{Edges, edges_of}
-
--- one key that stands alone is a run
-pub one_run : (t : Contents) (level a b : ℕ) → a ≡ b → b < length t.keys → IsApart t.keys level a b →
-    IsRun t.keys level a b
-one_run t level a b e h apart =
-    record { order = omega arith; within = h; shared = ap (prefix_at t.keys level) e; apart = apart }
-
--- the cells of a level are those of the whole range
-pub cells_of-whole : (t : Contents) (level : ℕ) → 0 < length t.keys →
-    cells_of t.keys level ≡ cells_in t.keys level 0 (length t.keys - 1)
-unfolding cells_of cells_in
-cells_of-whole t level some = let count : length t.keys ≡ suc (length t.keys - 1) - 0 = omega arith in
-    ap (cells_from t.keys level 0) count
-
--- no key makes no cell
-cells_of-empty : (t : Contents) (level : ℕ) → length t.keys ≡ 0 → cells_of t.keys level ≡ []
-unfolding cells_of cells_from
-cells_of-empty t level e = ap (cells_from t.keys level 0) e
-
--- the whole range stands alone
-pub whole_apart : (t : Contents) (level : ℕ) → IsApart t.keys level 0 (length t.keys - 1)
-whole_apart t level = record { before = λ pos. absurd (omega arith); after = λ more. absurd (omega arith) }
 
 module _ (t : Contents) (table : IsTable t) (level : ℕ) (deep : level ≤ LEVELS) where
   -- fewer than two keys have no cell
   pub no_cells : length t.nodes ≡ 0 → cells_of t.keys level ≡ []
   no_cells none = elim (cases_eq (length t.keys) 0) [
-    | inl e ↦ cells_of-empty t level e
+    | inl e ↦ cells_of-empty t.keys level e
     | inr ne ↦
         let last : 0 ≡ length t.keys - 1 = omega (arith, table.count) in
-        cells_of-whole t level (omega arith)
+        cells_of-whole t.keys level (omega arith)
         ∙ cells_of_one t.keys table.lawful level deep 0 (length t.keys - 1)
-        (one_run t level 0 (length t.keys - 1) last (omega arith) (whole_apart t level)) last
+        (one_run t.keys level 0 (length t.keys - 1) last (omega arith) (whole_apart t.keys level)) last
   ]
 
   -- a range of a child is its only one
@@ -74,7 +52,7 @@ module _ (t : Contents) (table : IsTable t) (level : ℕ) (deep : level ≤ LEVE
       let lt = proper t.keys table.lawful d in
       let h = node_within t.keys table.lawful d in
       let root = root_node t.keys table.lawful (length t.keys - 1) refl (omega arith) in
-      apart_from (Inner 0) 0 (length t.keys - 1) root (whole_apart t level) a b d
+      apart_from (Inner 0) 0 (length t.keys - 1) root (whole_apart t.keys level) a b d
 
   -- the cells of the whole range are all, added to none or others
   pub root_adds_all : 0 < length t.nodes → (before after : List Cell) →
@@ -83,7 +61,7 @@ module _ (t : Contents) (table : IsTable t) (level : ℕ) (deep : level ≤ LEVE
   root_adds_all some before after added =
       added 0 (length t.keys - 1)
       (root_node t.keys table.lawful (length t.keys - 1) refl (omega (arith, table.count)))
-      ∙ ap (λ xs. before ++ xs) (sym (cells_of-whole t level (omega (arith, table.count))))
+      ∙ ap (λ xs. before ++ xs) (sym (cells_of-whole t.keys level (omega (arith, table.count))))
 
   -- one key adds no cell
   pub leaf_adds_none : (p : ℕ) → p < length t.keys → (before : List Cell) (a b : ℕ) → HasRange t.keys (Leaf p) a b →
@@ -91,7 +69,7 @@ module _ (t : Contents) (table : IsTable t) (level : ℕ) (deep : level ≤ LEVE
   leaf_adds_none p h before a b (e, f) apart =
       let one : a ≡ b = sym e ∙ f in
       sym (ap (λ xs. before ++ xs)
-      (cells_of_one t.keys table.lawful level deep a b (one_run t level a b one (omega arith) apart) one)
+      (cells_of_one t.keys table.lawful level deep a b (one_run t.keys level a b one (omega arith) apart) one)
       ∙ append-nil before)
 
   module _ (k : ℕ) (inside : k < length t.nodes) where

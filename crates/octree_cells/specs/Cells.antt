@@ -1,7 +1,8 @@
--- The octree cells of keys in order: at each level, the prefixes that two or more keys have.
-use Rattle.std.specs.Prelude.{ℕ, suc, zero, ◌+◌, ◌-◌, ◌*◌, ◌/◌, ◌^◌, ◌==◌, ◌&&◌, nat_lt, Bool, if◌then◌else◌, List, [], ◌∷◌, ◌++◌, length, take, count_by}
+-- The octree cells of keys in order: the prefixes that two or more keys have. What is meant, as a relation.
+use Rattle.std.specs.Prelude.{ℕ, ◌≡◌, ◌↔◌, ◌-◌, ◌*◌, ◌/◌, ◌^◌, ◌<◌, ◌≤◌, List, length}
+use Rattle.std.specs.List.{All, AllPairs, Contains}
 use Rattle.morton_key.specs.declared.keys.Key.{Key}
-use Rattle.morton_key.specs.declared.keys.TheConstants.{LEVELS, WIDTH}
+use Rattle.morton_key.specs.declared.keys.TheConstants.{WIDTH}
 use Rattle.morton_key.specs.Keys.{code_at}
 use Rattle.octree_cells.specs.declared.cell.Cell.{Cell}
 
@@ -13,47 +14,21 @@ prefix_of level code = code / 2 ^ (WIDTH - 3 * level)
 unfoldable pub prefix_at : List Key → ℕ → ℕ → ℕ
 prefix_at keys level i = prefix_of level (code_at keys i)
 
--- how many of the keys have a prefix
-unfoldable pub keys_with : ℕ → ℕ → List Key → ℕ
-keys_with level prefix keys = count_by (λ k. prefix_of level k.code == prefix) keys
+-- the cell is one of that level: its prefix is that of two or more keys, those at its positions from first to last
+pub record IsCell (keys : List Key) (depth : ℕ) (cell : Cell) : Type 0 where
+  pub at_depth : cell.level ≡ depth
+  pub two : cell.first < cell.last
+  pub within : cell.last < length keys
+  pub alike : (i : ℕ) → i < length keys →
+      (prefix_at keys depth i ≡ cell.prefix) ↔ ((cell.first ≤ i) × (i ≤ cell.last))
 
--- the last position, up to i, of a key that has a prefix
-unfoldable pub last_with : List Key → ℕ → ℕ → ℕ → ℕ
-last_with keys level prefix zero = zero
-last_with keys level prefix (suc i) =
-    if prefix_at keys level (suc i) == prefix then suc i else last_with keys level prefix i
+-- the list has a cell with that prefix
+abbrev pub Lists : List Cell → ℕ → Type 0
+Lists cells prefix = (cell : Cell) × Contains cells cell × (cell.prefix ≡ prefix)
 
--- the prefix of the key at a position is that of two or more keys, and of none before it
-unfoldable pub is_cell_at : List Key → ℕ → ℕ → Bool
-is_cell_at keys level i =
-    nat_lt 1 (keys_with level (prefix_at keys level i) keys)
-    && keys_with level (prefix_at keys level i) (take i keys) == 0
-
--- the cell whose first key is at a position
-unfoldable pub cell_at : List Key → ℕ → ℕ → Cell
-cell_at keys level i =
-    record {
-      level = level;
-      prefix = prefix_at keys level i;
-      first = i;
-      last = last_with keys level (prefix_at keys level i) (length keys - 1);
-    }
-
--- the cells whose first keys are at so many positions, from one on
-unfoldable pub cells_from : List Key → ℕ → ℕ → ℕ → List Cell
-cells_from keys level i zero = []
-cells_from keys level i (suc count) =
-    (if is_cell_at keys level i then cell_at keys level i ∷ [] else []) ++ cells_from keys level (suc i) count
-
--- the cells of a level
-unfoldable pub cells_of : List Key → ℕ → List Cell
-cells_of keys level = cells_from keys level 0 (length keys)
-
--- how many cells the levels from 0 to one have
-unfoldable pub cells_to : List Key → ℕ → ℕ
-cells_to keys zero = length (cells_of keys 0)
-cells_to keys (suc level) = cells_to keys level + length (cells_of keys (suc level))
-
--- how many cells there are, of all levels
-unfoldable pub cell_count_of : List Key → ℕ
-cell_count_of keys = cells_to keys LEVELS
+-- the list has the cells of a level and no other: each prefix that two keys have, once, and they rise
+pub record AreCells (keys : List Key) (level : ℕ) (cells : List Cell) : Type 0 where
+  pub each : All (IsCell keys level) cells
+  pub every : (i j : ℕ) → i < j → j < length keys → prefix_at keys level i ≡ prefix_at keys level j →
+      Lists cells (prefix_at keys level i)
+  pub rising : AllPairs (λ a b. a.prefix < b.prefix) cells

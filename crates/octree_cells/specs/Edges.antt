@@ -5,7 +5,8 @@ use Rattle.morton_key.specs.declared.keys.TheConstants.{WIDTH}
 use Rattle.morton_key.specs.Measure.{measure}
 use Rattle.radix_tree.specs.declared.nodes.Node.{Node}
 use Rattle.octree_cells.specs.declared.cell.Cell.{Cell}
-use Rattle.octree_cells.specs.Cells.{prefix_at, cells_from}
+use Rattle.octree_cells.specs.Cells.{prefix_at}
+use Rattle.octree_cells.specs.CellsOf.{cells_from}
 
 -- the greatest level at which the keys at two positions have one prefix: each level takes three bits
 unfoldable pub shared_level : List Key → ℕ → ℕ → ℕ

@@ -4,7 +4,7 @@
 ghost use Rattle.std.specs.Prelude.{◌≡◌, ℕ, ◌+◌, ◌*◌, ◌<◌, ◌≤◌, length};
 ghost use Rattle.morton_key.specs.Keys.{IsLawful};
 ghost use Rattle.radix_tree.specs.Table.{IsTable, IsRow, node_at};
-ghost use Rattle.octree_cells.specs.Cells.{cell_count_of};
+ghost use Rattle.octree_cells.specs.CellsOf.{cell_count_of};
 ghost use Rattle.octree_cells.specs.Edges.{edge_levels, node_levels, shared_level};
 
 use crate::sharing::shared_level;

@@ -2,10 +2,12 @@
 //! Where a node's keys share a prefix of the level it is a cell, and all below it is that cell.
 
 ghost use Rattle.std.specs.Prelude.{◌≡◌, ℕ, ◌-◌, ◌<◌, ◌≤◌, ◌++◌, length, IfOk, OnOk, IfSome};
+ghost use Rattle.morton_key.specs.Keys.{IsLawful};
 ghost use Rattle.radix_tree.specs.Ranges.{HasRange};
 ghost use Rattle.radix_tree.specs.Table.{IsTable, node_at};
 ghost use Rattle.radix_tree.specs.Filling.{IsChild};
-ghost use Rattle.octree_cells.specs.Cells.{prefix_of, cells_of};
+ghost use Rattle.octree_cells.specs.Cells.{prefix_of, AreCells};
+ghost use Rattle.octree_cells.specs.CellsOf.{cells_of};
 ghost use Rattle.octree_cells.specs.Edges.{cell_over, cells_in, IsApart, shared_level};
 
 use crate::sharing::shared_level;
@@ -71,7 +73,8 @@ fn collect(t: &Tree, level: u32, child: Child, found: &mut Vec<Cell>) -> Result<
 /// Adds the cells of a level.
 fn collect_all(t: &Tree, level: u32, found: &mut Vec<Cell>) -> Result<(), AllocError>
     requires { level ≤ LEVELS }
-    ensures { OnOk result (found.new.items ≡ found.old.items ++ cells_of t.now.keys level) }
+    ensures cells { OnOk result (found.new.items ≡ found.old.items ++ cells_of t.now.keys level) }
+    ensures lawful { IsLawful t.now.keys }
 {
     if t.nodes().is_empty() {
         return Ok(());
@@ -86,7 +89,8 @@ fn collect_all(t: &Tree, level: u32, found: &mut Vec<Cell>) -> Result<(), AllocE
 /// answer's list. It is at most one call deeper than the tree is high (Karras, HPG 2012, section 5).
 pub fn cells(alloc: Global, t: &Tree, level: u32) -> Result<CellList, Memory>
     requires { level ≤ LEVELS }
-    ensures { IfOk result (λ list. list ≡ cells_of t.now.keys level) }
+    ensures cells { IfOk result (AreCells t.now.keys level) }
+    ensures value { IfOk result (λ list. list ≡ cells_of t.now.keys level) }
 {
     let mut found = Vec::new(alloc);
     collect_all(t, level, &mut found).map_err(|_| Memory)?;

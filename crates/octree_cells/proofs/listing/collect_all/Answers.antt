@@ -4,8 +4,8 @@ use Rattle.std.proofs.lemmas.Result.{on_ok_weaker}
 use Rattle.octree_cells.proofs.Walking.{no_cells, root_apart, root_adds_all}
 use Rattle.octree_cells.proofs.listing.collect_all.Goals as goal
 
-pub returns-then-is_empty : goal.returns-then-is_empty
-returns-then-is_empty c =
+pub returns-then-is_empty-clause-cells : goal.returns-then-is_empty-clause-cells
+returns-then-is_empty-clause-cells c =
     let none = eqb-true (length c.nodes.result.now) 0 (sym c.is_empty.ensures ∙ c.if-is_empty.true) in
     sym (ap (λ xs. c.args.found.now.items ++ xs)
     (no_cells c.args.t.now c.nodes.ensures.table c.args.level c.requires
@@ -20,8 +20,8 @@ collect-requires-clause-child c =
 pub collect-requires-clause-apart : goal.collect-requires-clause-apart
 collect-requires-clause-apart c = λ a b d. root_apart c.args.t.now c.nodes.ensures.table c.args.level c.requires a b d
 
-pub returns : goal.returns
-returns c =
+pub returns-clause-cells : goal.returns-clause-cells
+returns-clause-cells c =
     let some = eqb-false (length c.nodes.result.now) 0 (sym c.is_empty.ensures ∙ c.if-is_empty.false) in
     on_ok_weaker c.collect.result
     (λ added. root_adds_all c.args.t.now c.nodes.ensures.table c.args.level c.requires
