@@ -76,7 +76,10 @@ known_fields unit keyword.Refit words = tt
 known_fields unit keyword.Rebuild words = tt
 known_fields unit keyword.Node words =
     known_onward (number_of (first_of words)) _ (known_number (whole_of (first_of words))) (λ n. tt)
+known_fields unit keyword.Cells words =
+    known_onward (number_of (first_of words)) _ (known_number (whole_of (first_of words))) (λ level. tt)
 known_fields unit keyword.Groups words = tt
+known_fields unit keyword.Stat words = tt
 known_fields unit keyword.Work words = tt
 
 -- a keyword, if it is one, and what follows it

@@ -17,7 +17,7 @@ use Rattle.query_script.specs.declared.keywords.Keyword.TheVariants as keyword
 use Rattle.query_script.specs.declared.asks.Ask.{Ask}
 use Rattle.query_script.specs.declared.asks.Ask.TheVariants as ask
 use Rattle.query_script.specs.declared.faults.LineFault.{LineFault}
-use Rattle.query_script.specs.declared.faults.LineFault.TheVariants.{UnknownWord, WrongCount, NotANumber, NumberTooLong, OutOfRange, NoSuchVertex, NoSuchNode, LineTooLong}
+use Rattle.query_script.specs.declared.faults.LineFault.TheVariants.{UnknownWord, WrongCount, NotANumber, NumberTooLong, OutOfRange, NoSuchVertex, NoSuchNode, NoSuchLevel, LineTooLong}
 
 -- a step after a step; the fault is that of the first that fails
 abbrev pub onward : {A B : Type 0} → Result A LineFault → (A → Result B LineFault) → Result B LineFault
@@ -89,7 +89,9 @@ fields_ask unit keyword.Move words =
 fields_ask unit keyword.Refit words = Ok ask.Refit
 fields_ask unit keyword.Rebuild words = Ok ask.Rebuild
 fields_ask unit keyword.Node words = onward (number_of (first_of words)) (λ n. Ok (ask.NodeOf n))
+fields_ask unit keyword.Cells words = onward (number_of (first_of words)) (λ level. Ok (ask.Cells level))
 fields_ask unit keyword.Groups words = Ok ask.Groups
+fields_ask unit keyword.Stat words = Ok ask.Stat
 fields_ask unit keyword.Work words = Ok ask.Work
 
 -- how many words follow a keyword
@@ -100,7 +102,9 @@ count_of keyword.Move = 4
 count_of keyword.Refit = 0
 count_of keyword.Rebuild = 0
 count_of keyword.Node = 1
+count_of keyword.Cells = 1
 count_of keyword.Groups = 0
+count_of keyword.Stat = 0
 count_of keyword.Work = 0
 
 -- ---- a line
@@ -114,8 +118,10 @@ keyword_of word =
     else (if bytes_eq word (codes "refit") then Some keyword.Refit
     else (if bytes_eq word (codes "rebuild") then Some keyword.Rebuild
     else (if bytes_eq word (codes "node") then Some keyword.Node
+    else (if bytes_eq word (codes "cells") then Some keyword.Cells
     else (if bytes_eq word (codes "groups") then Some keyword.Groups
-    else (if bytes_eq word (codes "work") then Some keyword.Work else None)))))))
+    else (if bytes_eq word (codes "stat") then Some keyword.Stat
+    else (if bytes_eq word (codes "work") then Some keyword.Work else None)))))))))
 
 -- what a keyword and the words behind it ask
 abbrev pub counted_ask : ℕ → Option Keyword → List (List ℕ) → Result Ask LineFault
@@ -157,7 +163,9 @@ IsAskable (ask.Move vertex to) = InWorld to
 IsAskable ask.Refit = ⊤
 IsAskable ask.Rebuild = ⊤
 IsAskable (ask.NodeOf number) = ⊤
+IsAskable (ask.Cells level) = ⊤
 IsAskable ask.Groups = ⊤
+IsAskable ask.Stat = ⊤
 IsAskable ask.Work = ⊤
 
 -- a line alone may have the fault; the others are a world's
@@ -169,4 +177,5 @@ IsOfLine NumberTooLong = ⊤
 IsOfLine OutOfRange = ⊤
 IsOfLine NoSuchVertex = ⊥
 IsOfLine NoSuchNode = ⊥
+IsOfLine NoSuchLevel = ⊥
 IsOfLine LineTooLong = ⊤

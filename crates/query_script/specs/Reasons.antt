@@ -14,6 +14,7 @@ fault_text script.NumberTooLong = codes "number too long"
 fault_text script.OutOfRange = codes "out of range"
 fault_text script.NoSuchVertex = codes "no such vertex"
 fault_text script.NoSuchNode = codes "no such node"
+fault_text script.NoSuchLevel = codes "no such level"
 fault_text script.LineTooLong = codes "line too long"
 
 -- of a mesh

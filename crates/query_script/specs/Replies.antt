@@ -4,11 +4,12 @@ use Rattle.std.specs.Fmt.{signed_decimal}
 use Rattle.fixed_box.specs.declared.shapes.Point.{Point}
 use Rattle.fixed_box.specs.declared.shapes.Box3.{Box3}
 use Rattle.radix_tree.specs.declared.nodes.Node.{Node}
+use Rattle.octree_cells.specs.declared.cell.Cell.{Cell}
 use Rattle.segment_hit.specs.HitOf.{Ratio}
 use Rattle.query_script.specs.declared.faults.LineFault.{LineFault}
 use Rattle.query_script.specs.declared.groups.GroupCount.{GroupCount}
 use Rattle.query_script.specs.declared.replies.Reply.{Reply}
-use Rattle.query_script.specs.declared.replies.Reply.TheVariants.{Nothing, Overlaps, Hit, Miss, Moved, Refitted, Rebuilt, NodeIs, GroupsAre, WorkIs, Refused}
+use Rattle.query_script.specs.declared.replies.Reply.TheVariants.{Nothing, Overlaps, Hit, Miss, Moved, Refitted, Rebuilt, NodeIs, CellsAre, GroupsAre, StatIs, WorkIs, Refused}
 use Rattle.query_script.specs.Reasons.{fault_text}
 
 -- each word behind a space
@@ -55,6 +56,16 @@ range_words node = decimal node.first ∷ decimal node.last ∷ decimal node.spl
 abbrev pub node_words : Node → List (List ℕ)
 node_words node = range_words node ++ box_words node.fit
 
+-- the prefixes of cells
+abbrev pub prefixes : List Cell → List ℕ
+prefixes cells = map (λ cell. cell.prefix) cells
+
+-- the counts behind the words that name them
+abbrev pub stat_words : ℕ → ℕ → ℕ → ℕ → List (List ℕ)
+stat_words triangles nodes height cells =
+    decimal triangles ∷ codes "nodes" ∷ decimal nodes ∷ codes "height" ∷ decimal height ∷ codes "cells"
+    ∷ decimal cells ∷ []
+
 -- the line of this number is refused
 abbrev pub refusal_text : ℕ → LineFault → List ℕ
 refusal_text line fault = codes "line " ++ (decimal line ++ (codes ": " ++ (fault_text fault ++ codes "\n")))
@@ -69,7 +80,10 @@ reply_text line (Moved vertex) = line_of (codes "moved") (decimal vertex ∷ [])
 reply_text line Refitted = codes "refitted\n"
 reply_text line Rebuilt = codes "rebuilt\n"
 reply_text line (NodeIs number node) = line_of (codes "node") (decimal number ∷ node_words node)
+reply_text line (CellsAre level cells) = line_of (codes "cells") (decimal level ∷ counted_words (prefixes cells))
 reply_text line (GroupsAre groups) = line_of (codes "groups") (group_words groups)
+reply_text line (StatIs triangles nodes height cells) =
+    line_of (codes "triangles") (stat_words triangles nodes height cells)
 reply_text line (WorkIs work) = line_of (codes "work") (decimal work ∷ [])
 reply_text line (Refused fault) = refusal_text line fault
 
@@ -84,5 +98,7 @@ is_refused (Moved vertex) = false
 is_refused Refitted = false
 is_refused Rebuilt = false
 is_refused (NodeIs number node) = false
+is_refused (CellsAre level cells) = false
 is_refused (GroupsAre groups) = false
+is_refused (StatIs triangles nodes height cells) = false
 is_refused (WorkIs work) = false

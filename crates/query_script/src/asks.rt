@@ -19,8 +19,12 @@ pub enum Ask {
     Rebuild,
     /// The inner node of this number; numbers above 2^40 stand for 2^40.
     NodeOf { number: u64 },
+    /// The octree's cells of this level; levels above 2^40 stand for 2^40.
+    Cells { level: u64 },
     /// The names of the mesh's groups, each with its count of triangles.
     Groups,
+    /// How many triangles, nodes and cells there are, and how high the tree is.
+    Stat,
     /// How many boxes the last box query looked at.
     Work,
 }

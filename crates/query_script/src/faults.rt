@@ -17,6 +17,8 @@ pub enum LineFault {
     NoSuchVertex,
     /// The tree has no inner node of that number. Only the world refuses so.
     NoSuchNode,
+    /// The octree has no level of that number. Only the world refuses so.
+    NoSuchLevel,
     /// The line has more than 1,000 bytes.
     LineTooLong,
 }

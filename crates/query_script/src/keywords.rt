@@ -15,8 +15,12 @@ pub enum Keyword {
     Rebuild,
     /// `node`, and a number.
     Node,
+    /// `cells`, and a number.
+    Cells,
     /// `groups`, and nothing more.
     Groups,
+    /// `stat`, and nothing more.
+    Stat,
     /// `work`, and nothing more.
     Work,
 }

@@ -33,7 +33,8 @@ use text_words::Words;
 /// | `move v x y z` | that vertex number `v` stands there |
 /// | `refit`, `rebuild` | that the boxes are fitted, that the tree is built anew |
 /// | `node i` | node number `i` |
-/// | `groups`, `work` | the groups, the last box query's work |
+/// | `cells L` | the octree's cells of level `L` |
+/// | `groups`, `stat`, `work` | the groups, the counts of the tree, the last box query's work |
 ///
 /// The two corners of a `box` may stand in any order. It takes no memory.
 pub fn read_line(line: &[u8], unit: u32) -> Result<Ask, LineFault>
@@ -85,8 +86,14 @@ fn keyword(word: &[u8]) -> Option<Keyword>
     if word == b"node".as_slice() {
         return Some(Keyword::Node);
     }
+    if word == b"cells".as_slice() {
+        return Some(Keyword::Cells);
+    }
     if word == b"groups".as_slice() {
         return Some(Keyword::Groups);
+    }
+    if word == b"stat".as_slice() {
+        return Some(Keyword::Stat);
     }
     if word == b"work".as_slice() {
         return Some(Keyword::Work);
@@ -104,7 +111,9 @@ fn count_of(keyword: Keyword) -> usize
         Keyword::Refit => 0,
         Keyword::Rebuild => 0,
         Keyword::Node => 1,
+        Keyword::Cells => 1,
         Keyword::Groups => 0,
+        Keyword::Stat => 0,
         Keyword::Work => 0,
     }
 }
@@ -150,7 +159,12 @@ fn fields(keyword: Keyword, words: &mut Words, unit: u32) -> Result<Ask, LineFau
             let number = number(words)?;
             Ok(Ask::NodeOf { number })
         }
+        Keyword::Cells => {
+            let level = number(words)?;
+            Ok(Ask::Cells { level })
+        }
         Keyword::Groups => Ok(Ask::Groups),
+        Keyword::Stat => Ok(Ask::Stat),
         Keyword::Work => Ok(Ask::Work),
     }
 }

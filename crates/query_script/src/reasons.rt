@@ -18,6 +18,7 @@ pub fn fault_text(fault: LineFault) -> &'static str
         LineFault::OutOfRange => "out of range",
         LineFault::NoSuchVertex => "no such vertex",
         LineFault::NoSuchNode => "no such node",
+        LineFault::NoSuchLevel => "no such level",
         LineFault::LineTooLong => "line too long",
     }
 }

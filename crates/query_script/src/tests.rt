@@ -5,6 +5,7 @@ ghost use Rattle.fixed_box.specs.World.{InWorld};
 use super::*;
 use fixed_box::{Box3, Point, Tri};
 use obj_text::Why;
+use octree_cells::{Cell, CellList};
 use outside::Name;
 use radix_tree::Node;
 use segment_hit::hit;
@@ -37,6 +38,15 @@ fn point(x: i32, y: i32, z: i32) -> Point {
     Point { x, y, z }
 }
 
+fn cell(prefix: u64, first: u32, last: u32) -> Cell {
+    Cell {
+        level: 1,
+        prefix,
+        first,
+        last,
+    }
+}
+
 fn box_between(lo: Point, hi: Point) -> Ask {
     let around = Box3::of_corners(lo, hi);
     Ask::Overlap { around }
@@ -44,7 +54,7 @@ fn box_between(lo: Point, hi: Point) -> Ask {
 
 #[test]
 fn the_first_thing_wrong_from_left_to_right_is_the_fault(rt: HostRuntime) {
-    let rows: [(&str, u32, LineFault); 33] = [
+    let rows: [(&str, u32, LineFault); 36] = [
         ("frob 1", 1, LineFault::UnknownWord),
         ("frob a", 1, LineFault::UnknownWord),
         ("boxes 0 0 0 0 0 0", 1, LineFault::UnknownWord),
@@ -59,6 +69,9 @@ fn the_first_thing_wrong_from_left_to_right_is_the_fault(rt: HostRuntime) {
         ("node", 1, LineFault::WrongCount),
         ("node 1 2", 1, LineFault::WrongCount),
         ("work #", 1, LineFault::WrongCount),
+        ("cells", 1, LineFault::WrongCount),
+        ("stat 0", 1, LineFault::WrongCount),
+        ("cells 1.5", 1, LineFault::NotANumber),
         ("box a 0 0 1 1 1", 1, LineFault::NotANumber),
         ("box . 0 0 0 0 0", 1, LineFault::NotANumber),
         ("box 0 0 0 0 0 1e", 1, LineFault::NotANumber),
@@ -113,10 +126,12 @@ fn blank_lines_and_comments_ask_nothing(rt: HostRuntime) {
 
 #[test]
 fn words_and_numbers_become_asks(rt: HostRuntime) {
-    let rows: [(&str, u32, Ask); 12] = [
+    let rows: [(&str, u32, Ask); 14] = [
         ("work", 1, Ask::Work),
         ("\twork\r", 1, Ask::Work),
         ("groups", 1, Ask::Groups),
+        ("cells 018", 1, Ask::Cells { level: 18 }),
+        ("stat", 1, Ask::Stat),
         (
             "seg -2048 1.5 -0.0078125 2047.99 0 0",
             64,
@@ -205,6 +220,27 @@ fn each_reply_is_one_line_of_words(rt: HostRuntime) -> Result<(), Fail> {
         "overlaps 3: 3 14 1048576\n",
     );
 
+    let none = CellList::new(Vec::new(alloc));
+    let told = Reply::CellsAre {
+        level: 0,
+        list: none,
+    };
+    is_written(&rt, alloc, &told, "cells 0 0\n");
+    let octants = [cell(0, 0, 3), cell(7, 4, 5)];
+    let two = CellList::new(Vec::from_slice(alloc, &octants)?);
+    let told = Reply::CellsAre {
+        level: 1,
+        list: two,
+    };
+    is_written(&rt, alloc, &told, "cells 1 2: 0 7\n");
+    let told = Reply::StatIs {
+        triangles: 4,
+        nodes: 3,
+        height: 2,
+        cells: 28,
+    };
+    is_written(&rt, alloc, &told, "triangles 4 nodes 3 height 2 cells 28\n");
+
     let first = GroupCount {
         name: Name::new(Vec::from_slice(alloc, b"Floor")?),
         count: 2,
@@ -258,7 +294,7 @@ fn each_reply_is_one_line_of_words(rt: HostRuntime) -> Result<(), Fail> {
 
 #[test]
 fn a_refusal_names_its_line_and_reason(rt: HostRuntime) {
-    let rows: [(LineFault, &str); 8] = [
+    let rows: [(LineFault, &str); 9] = [
         (LineFault::UnknownWord, "line 12: unknown word\n"),
         (LineFault::WrongCount, "line 12: wrong count of words\n"),
         (LineFault::NotANumber, "line 12: not a number\n"),
@@ -266,6 +302,7 @@ fn a_refusal_names_its_line_and_reason(rt: HostRuntime) {
         (LineFault::OutOfRange, "line 12: out of range\n"),
         (LineFault::NoSuchVertex, "line 12: no such vertex\n"),
         (LineFault::NoSuchNode, "line 12: no such node\n"),
+        (LineFault::NoSuchLevel, "line 12: no such level\n"),
         (LineFault::LineTooLong, "line 12: line too long\n"),
     ];
     for (fault, text) in rows {

@@ -2,7 +2,7 @@
 
 ghost use Rattle.std.specs.Prelude.{◌≡◌, ◌++◌, [], ◌∷◌, IfOk, OnOk, codes, map, decimal};
 ghost use Rattle.segment_hit.specs.HitOf.{ratio_of};
-ghost use Rattle.query_script.specs.Replies.{reply_text, line_of, refusal_text, spaced, counted_words, group_words, tally_words, ratio_word, point_words, box_words, range_words, node_words, is_refused};
+ghost use Rattle.query_script.specs.Replies.{reply_text, line_of, refusal_text, spaced, counted_words, group_words, tally_words, ratio_word, point_words, box_words, range_words, node_words, prefixes, stat_words, is_refused};
 
 use crate::faults::LineFault;
 use crate::fractions::HitFraction;
@@ -11,6 +11,7 @@ use crate::reasons::fault_text;
 use crate::replies::Reply;
 use fixed_box::{Box3, Point};
 use itoa::{Buffer, Integer};
+use octree_cells::Cell;
 use outside::Memory;
 use radix_tree::Node;
 use segment_hit::Frac;
@@ -22,7 +23,9 @@ use std::alloc::{AllocError, Global};
 /// - `Hit`: `hit T N/D` with the triangle's number and the fraction; `Miss`: `miss`;
 /// - `Moved`: `moved` and the vertex's number; `Refitted`: `refitted`; `Rebuilt`: `rebuilt`;
 /// - `NodeIs`: `node`, the number, first and last position, split, and the coordinates of the box's corners;
+/// - `CellsAre`: `cells L K: p1 p2 p3` with the level, the count and the prefixes, or `cells L 0`;
 /// - `GroupsAre`: `groups K: name1 count1 name2 count2` with the count of groups, or `groups 0`;
+/// - `StatIs`: `triangles T nodes I height H cells C`;
 /// - `WorkIs`: `work` and the count;
 /// - `Refused`: `line N: ` with the line's number and the reason (`fault_text`).
 pub fn reply_text(alloc: Global, line: u32, reply: &Reply) -> Result<Vec<u8>, Memory>
@@ -47,7 +50,14 @@ fn add_reply(text: &mut Vec<u8>, line: u32, reply: &Reply) -> Result<(), AllocEr
         Reply::Refitted => text.extend_from_slice(b"refitted\n"),
         Reply::Rebuilt => text.extend_from_slice(b"rebuilt\n"),
         Reply::NodeIs { number, node } => add_node(text, *number, node),
+        Reply::CellsAre { level, list } => add_cells(text, *level, list.items()),
         Reply::GroupsAre(groups) => add_groups(text, groups.items()),
+        Reply::StatIs {
+            triangles,
+            nodes,
+            height,
+            cells,
+        } => add_stat(text, *triangles, *nodes, *height, *cells),
         Reply::WorkIs(work) => add_work(text, *work),
         Reply::Refused(fault) => add_refusal(text, line, *fault),
     }
@@ -143,6 +153,30 @@ fn add_point(text: &mut Vec<u8>, point: &Point) -> Result<(), AllocError>
     add_number(text, point.z)
 }
 
+fn add_cells(text: &mut Vec<u8>, level: u64, cells: &[Cell]) -> Result<(), AllocError>
+    ensures { OnOk result (text.new.items ≡ text.old.items
+        ++ line_of (codes "cells") (decimal level ∷ counted_words (prefixes cells.now))) }
+{
+    text.extend_from_slice(b"cells")?;
+    add_number(text, level)?;
+    add_number(text, cells.len())?;
+    if !cells.is_empty() {
+        text.extend_from_slice(b":")?;
+        add_prefixes(text, cells)?;
+    }
+    text.extend_from_slice(b"\n")
+}
+
+/// Each prefix behind a space.
+fn add_prefixes(text: &mut Vec<u8>, cells: &[Cell]) -> Result<(), AllocError>
+    ensures { OnOk result (text.new.items ≡ text.old.items ++ spaced (map decimal (prefixes cells.now))) }
+{
+    for cell in cells {
+        add_number(text, cell.prefix)?;
+    }
+    Ok(())
+}
+
 fn add_groups(text: &mut Vec<u8>, groups: &[GroupCount]) -> Result<(), AllocError>
     ensures { OnOk result (text.new.items ≡ text.old.items
         ++ line_of (codes "groups") (group_words groups.now)) }
@@ -172,6 +206,32 @@ fn add_tally(text: &mut Vec<u8>, group: &GroupCount) -> Result<(), AllocError>
     text.extend_from_slice(b" ")?;
     text.extend_from_slice(group.name.bytes())?;
     add_number(text, group.count)
+}
+
+fn add_stat(
+    text: &mut Vec<u8>,
+    triangles: u32,
+    nodes: u32,
+    height: u32,
+    cells: u64,
+) -> Result<(), AllocError>
+    ensures { OnOk result (text.new.items ≡ text.old.items
+        ++ line_of (codes "triangles") (stat_words triangles nodes height cells)) }
+{
+    text.extend_from_slice(b"triangles")?;
+    add_number(text, triangles)?;
+    add_named(text, " nodes", nodes)?;
+    add_named(text, " height", height)?;
+    add_named(text, " cells", cells)?;
+    text.extend_from_slice(b"\n")
+}
+
+/// A word that stands behind a space, and the number that it names.
+fn add_named<I: Integer>(text: &mut Vec<u8>, word: &str, n: I) -> Result<(), AllocError>
+    ensures { OnOk result (text.new.items ≡ text.old.items ++ (word.now ++ (codes " " ++ I.text n))) }
+{
+    text.extend_from_slice(word.as_bytes())?;
+    add_number(text, n)
 }
 
 fn add_work(text: &mut Vec<u8>, work: u64) -> Result<(), AllocError>
