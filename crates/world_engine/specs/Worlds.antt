@@ -7,19 +7,22 @@ use Rattle.fixed_box.specs.declared.shapes.Tri.{Tri}
 use Rattle.obj_text.specs.Meshes.{MeshLists}
 use Rattle.obj_text.specs.declared.face.Face.{Face}
 use Rattle.morton_key.specs.declared.keys.Key.{Key}
+use Rattle.morton_key.specs.declared.keys.TheConstants.{LEVELS}
 use Rattle.morton_key.specs.Order.{order_of}
 use Rattle.radix_tree.specs.declared.nodes.Node.{Node}
 use Rattle.radix_tree.specs.Table.{node_at}
+use Rattle.radix_tree.specs.Shape.{shape_of, height_of}
 use Rattle.radix_tree.specs.Fit.{table_of}
+use Rattle.octree_cells.specs.CellsOf.{cells_of, cell_count_of}
 use Rattle.traversal.specs.Overlaps.{overlaps_of, work_of}
 use Rattle.traversal.specs.NearestOf.{NearestHit, nearest_of}
 use Rattle.query_script.specs.declared.asks.Ask.{Ask}
 use Rattle.query_script.specs.declared.asks.Ask.TheVariants as ask
 use Rattle.query_script.specs.declared.faults.LineFault.{LineFault}
-use Rattle.query_script.specs.declared.faults.LineFault.TheVariants.{NoSuchVertex, NoSuchNode}
+use Rattle.query_script.specs.declared.faults.LineFault.TheVariants.{NoSuchVertex, NoSuchNode, NoSuchLevel}
 use Rattle.query_script.specs.declared.groups.GroupCount.{GroupCount}
 use Rattle.query_script.specs.declared.replies.Reply.{Reply}
-use Rattle.query_script.specs.declared.replies.Reply.TheVariants.{Nothing, Overlaps, Hit, Miss, Moved, Refitted, Rebuilt, NodeIs, GroupsAre, WorkIs, Refused}
+use Rattle.query_script.specs.declared.replies.Reply.TheVariants.{Nothing, Overlaps, Hit, Miss, Moved, Refitted, Rebuilt, NodeIs, CellsAre, GroupsAre, StatIs, WorkIs, Refused}
 
 -- a state of the world: the mesh that opened it, the points now, those of the last build, the last box query's work,
 -- and whether no vertex was moved since it was opened, refitted or built anew
@@ -104,6 +107,14 @@ moved world vertex to =
 abbrev pub node_reply : List Node → ℕ → Reply
 node_reply nodes number = if nat_lt number (length nodes) then NodeIs number (node_at nodes number) else Refused NoSuchNode
 
+-- the octree's cells of that level, or that there is no such level
+abbrev pub cells_reply : List Key → ℕ → Reply
+cells_reply keys level = if nat_le level LEVELS then CellsAre level (cells_of keys level) else Refused NoSuchLevel
+
+-- the counts of the triangles, of the inner nodes, which are one fewer, and of the cells, and the height of the tree
+abbrev pub stat_reply : List Key → Reply
+stat_reply keys = StatIs (length keys) (length keys - 1) (height_of (shape_of keys)) (cell_count_of keys)
+
 -- the nearest hit, or that there is none
 abbrev pub hit_reply : Option NearestHit → Reply
 hit_reply None = Miss
@@ -118,7 +129,9 @@ reply_to world (ask.Move vertex to) = move_reply (length world.now) vertex
 reply_to world ask.Refit = Refitted
 reply_to world ask.Rebuild = Rebuilt
 reply_to world (ask.NodeOf number) = node_reply (table world) number
+reply_to world (ask.Cells level) = cells_reply (built_order world) level
 reply_to world ask.Groups = GroupsAre (groups_of world.mesh)
+reply_to world ask.Stat = stat_reply (built_order world)
 reply_to world ask.Work = WorkIs world.work
 
 -- the state after an ask: a box query leaves its work behind, a moved vertex its place, and a build its points
@@ -130,7 +143,9 @@ state_after world (ask.Move vertex to) = moved world vertex to
 state_after world ask.Refit = record world { settled = true }
 state_after world ask.Rebuild = record world { built = world.now; settled = true }
 state_after world (ask.NodeOf number) = world
+state_after world (ask.Cells level) = world
 state_after world ask.Groups = world
+state_after world ask.Stat = world
 state_after world ask.Work = world
 
 -- the ask takes no memory
@@ -142,7 +157,9 @@ is_free world (ask.Move vertex to) = true
 is_free world ask.Refit = false
 is_free world ask.Rebuild = false
 is_free world (ask.NodeOf number) = world.settled || not (nat_lt number (length (table world)))
+is_free world (ask.Cells level) = not (nat_le level LEVELS)
 is_free world ask.Groups = false
+is_free world ask.Stat = true
 is_free world ask.Work = true
 
 -- ---- lines

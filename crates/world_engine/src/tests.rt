@@ -410,6 +410,42 @@ fn a_world_changes_between_the_lines_of_a_script(rt: HostRuntime) -> Result<(), 
     Ok(())
 }
 
+#[test]
+fn cells_and_counts_are_those_of_the_last_build(rt: HostRuntime) -> Result<(), Fail> {
+    let rows: [(&[u8], &[u8], Status, &[u8]); 4] = [
+        (
+            b"",
+            b"cells 0\nstat\n",
+            Status::Done,
+            b"cells 0 0\ntriangles 0 nodes 0 height 0 cells 0\n",
+        ),
+        (
+            b"v 0 0 0\r\nv 4 0 0\r\nv 0 \\\r\n4 0\r\n# end \\\r\nf 1 2 3\r\n",
+            b"stat\ncells 18\n",
+            Status::Done,
+            b"triangles 1 nodes 0 height 0 cells 0\ncells 18 0\n",
+        ),
+        (
+            b"v 0 0 0\nv 4 0 0\nv 0 4 0\nf 1 2 3\nf 1 2 3\n",
+            b"cells 18\ncells 17\ncells 1\ncells 0\ncells 19\nstat\n",
+            Status::LinesRefused,
+            b"cells 18 1: 15762598695796784\ncells 17 1: 1970324836974598\ncells 1 1: 7\ncells 0 1: 0\nline 5: no such level\ntriangles 2 nodes 1 height 1 cells 19\n",
+        ),
+        (
+            b"v 0 0 0\nv 4 0 0\nv 0 4 0\nf 1 2 3\nv -4 -4 -4\nf 4 4 4\n",
+            b"cells 0\ncells 1\nmove 4 2 2 0\ncells 1\nrefit\nstat\nrebuild\ncells 1\nstat\n",
+            Status::Done,
+            b"cells 0 1: 0\ncells 1 0\nmoved 4\ncells 1 0\nrefitted\ntriangles 2 nodes 1 height 1 cells 1\nrebuilt\ncells 1 1: 7\ntriangles 2 nodes 1 height 1 cells 19\n",
+        ),
+    ];
+    for (mesh, script, status, output) in rows {
+        let devices = in_pieces(4096);
+        let words = "--unit 1 level.obj";
+        words_come_to(&rt, words, mesh, script, &devices, status, output, "cells")?;
+    }
+    Ok(())
+}
+
 /// A text many times.
 fn many(alloc: Global, text: &[u8], count: usize) -> Result<Vec<u8>, AllocError> {
     let mut all = Vec::new(alloc);

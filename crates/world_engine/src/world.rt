@@ -10,10 +10,12 @@ use crate::grouping::group_list;
 use crate::index::Index;
 use command_line::{Build, MOST_WORKERS};
 use fixed_box::{Box3, Point};
+use morton_key::LEVELS;
 use obj_text::Mesh;
+use octree_cells::{cells, count};
 use outside::{Gate, Memory};
 use query_script::{Ask, HitFraction, LineFault, Reply};
-use radix_tree::Node;
+use radix_tree::{Node, height};
 use std::alloc::Global;
 use std::marker::Model;
 use std::thread::Threads;
@@ -83,12 +85,12 @@ impl World {
     /// Answers what is asked; the points of a `Seg` and of a `Move` have to be in the world.
     ///
     /// `Refused` is answered to no ask but `Move`, with `NoSuchVertex`, exactly where the number is no vertex's (they
-    /// begin with 1), and `NodeOf`, with `NoSuchNode`, exactly where the number is not below the count of inner nodes;
-    /// the world is then as before.
+    /// begin with 1), `NodeOf`, with `NoSuchNode`, exactly where the number is not below the count of inner nodes, and
+    /// `Cells`, with `NoSuchLevel`, exactly where the level is above `LEVELS`; the world is then as before.
     ///
-    /// `Nothing`, `Move`, `Work` and every refused ask take no memory; nor do `Seg` and `NodeOf` where no vertex was
-    /// moved since the world was opened, refitted or built anew. After `Memory` the world is as before, and the next ask
-    /// that looks at boxes fits those that are still to be fitted.
+    /// `Nothing`, `Move`, `Stat`, `Work` and every refused ask take no memory; nor do `Seg` and `NodeOf` where no vertex
+    /// was moved since the world was opened, refitted or built anew. After `Memory` the world is as before, and the next
+    /// ask that looks at boxes fits those that are still to be fitted.
     pub fn answer<R: Threads + Sync, G: Gate>(
         &mut self,
         rt: &R,
@@ -110,7 +112,9 @@ impl World {
             Ask::Refit => self.refit(alloc),
             Ask::Rebuild => self.rebuild(rt, alloc),
             Ask::NodeOf { number } => self.node(alloc, *number),
+            Ask::Cells { level } => self.cells(alloc, *level),
             Ask::Groups => self.groups(alloc),
+            Ask::Stat => Ok(self.stat()),
             Ask::Work => Ok(Reply::WorkIs(self.work)),
         }
     }
@@ -183,6 +187,31 @@ impl World {
             .rebuild(rt, alloc, &self.points, self.mesh.faces())?;
         self.settled = true;
         Ok(Reply::Rebuilt)
+    }
+
+    /// The cells of a level, by the last build.
+    fn cells(&self, alloc: Global, level: u64) -> Result<Reply, Memory>
+        ensures reply { IfOk result (λ reply. reply ≡ reply_to self.now (Ask.Cells level)) }
+        ensures free { is_free self.now (Ask.Cells level) ≡ true → IsOk result }
+    {
+        if u64::from(LEVELS) < level {
+            return Ok(Reply::Refused(LineFault::NoSuchLevel));
+        }
+        let list = cells(alloc, &self.index.tree, level as u32)?;
+        Ok(Reply::CellsAre { level, list })
+    }
+
+    /// The counts of the tree and its height, by the last build.
+    fn stat(&self) -> Reply
+        ensures { result ≡ reply_to self.now Ask.Stat }
+    {
+        let tree = &self.index.tree;
+        Reply::StatIs {
+            triangles: tree.keys().len() as u32,
+            nodes: tree.nodes().len() as u32,
+            height: height(tree),
+            cells: count(tree),
+        }
     }
 
     fn groups(&self, alloc: Global) -> Result<Reply, Memory>
