@@ -10,7 +10,8 @@ use Rattle.segment_hit.specs.Stretches.{IsOnWay, IsPart}
 
 -- how long the way is on one axis; 1 where there is none
 abbrev pub IsWay : ℤ → ℤ → ℤ → Type 0
-IsWay from to way = ((from <ℤ to) × (way ≡ to -ℤ from)) ⊎ (((to <ℤ from) × (way ≡ from -ℤ to)) ⊎ ((from ≡ to) × (way ≡ pos 1)))
+IsWay from to way =
+    ((from <ℤ to) × (way ≡ to -ℤ from)) ⊎ (((to <ℤ from) × (way ≡ from -ℤ to)) ⊎ ((from ≡ to) × (way ≡ pos 1)))
 
 -- where the axis comes to the nearer side, and to the farther one
 unfoldable pub entry_of : Axis → ℤ → ℤ → ℤ

@@ -1,5 +1,5 @@
-//! How far along a line a fraction reaches: a quotient rounded down, so that a place is behind the fraction exactly where
-//! it is past that whole number.
+//! How far along a line a fraction reaches: a quotient rounded down, so that a place is behind the fraction exactly
+//! where it is past that whole number.
 
 ghost use Rattle.std.specs.Prelude.{◌+◌, ◌*◌, ◌<◌, ◌≤◌, pos, ◌+ℤ◌, ◌*ℤ◌, ◌≤ℤ◌, ◌<ℤ◌};
 

@@ -1,5 +1,5 @@
-//! A segment that is reckoned once, for many boxes: its three axes over one denominator, so that where it comes to a side
-//! of a box is a whole number over that denominator. All bounds follow from the width of the world.
+//! A segment that is reckoned once, for many boxes: its three axes over one denominator, so that where it comes to a
+//! side of a box is a whole number over that denominator. All bounds follow from the width of the world.
 
 ghost use Rattle.std.specs.Prelude.{pos, ◌<ℤ◌, ◌≤◌, unsigned_abs};
 ghost use Rattle.fixed_box.specs.World.{IsCoordinate};
@@ -17,7 +17,8 @@ pub const PRODUCT: u64 = SPAN * SCALE;
 /// The greatest denominator: a product of three differences.
 pub const WHOLE: u64 = SPAN * SQUARE;
 
-/// One axis of a segment: by how much the differences from its start are multiplied, and how much is added where it leaves.
+/// One axis of a segment: by how much the differences from its start are multiplied, and how much is added where it
+/// leaves.
 #[derive(Clone, Copy, Debug, Drop)]
 pub struct Axis {
     pub from: i32,

@@ -34,8 +34,8 @@ fn count_below(t: &Tree, boxes: &[Box3], q: &Box3, child: Child) -> u64
     }
 }
 
-/// The work of a box, as `overlaps` tells it, with no list of what it meets. It takes no memory, and is at most one call
-/// deeper than the tree is high.
+/// The work of a box, as `overlaps` tells it, with no list of what it meets. It takes no memory, and is at most one
+/// call deeper than the tree is high.
 ///
 /// The tree has to be fitted to the boxes; no triangle's box is read.
 pub fn work(t: &Tree, boxes: &[Box3], q: &Box3) -> u64

@@ -32,7 +32,8 @@ module _ (leaves : List Leaf) (moved : List ℕ) where
       (kept_covers right middle b on_right (λ (k, lt, l, h). none (k, lt, omega (arith, l, low), h)))
 
   -- a run with a new box
-  pub run_mended : (rs : List Record) (a : ℕ) (fit : Box3) (own : Record) → CoversBy (BoundsBut leaves moved) rs a (record_at rs 0).end →
+  pub run_mended : (rs : List Record) (a : ℕ) (fit : Box3) (own : Record) →
+      CoversBy (BoundsBut leaves moved) rs a (record_at rs 0).end →
       own ≡ record_at rs 0 → own.escape ≡ 1 → Bounds leaves fit a own.end →
       Covers leaves (set rs 0 (record { fit = fit; escape = own.escape; end = own.end })) a (record_at rs 0).end
   unfolding record_at
@@ -176,7 +177,8 @@ module _ (leaves : List Leaf) (moved : List ℕ) (rs first on_left on_right : Li
       let on_r : Covers leaves new_right left.end end = subst (Covers leaves new_right left.end) h.right_end cr in
       let bounds = union_bounds leaves near far fit a left.end end
       (subst (λ b. Bounds leaves b a left.end) (sym near_is) (first_bounds leaves new_left a left.end on_l))
-      (subst (λ b. Bounds leaves b left.end end) (sym far_is) (first_bounds leaves new_right left.end end on_r)) least in
+      (subst (λ b. Bounds leaves b left.end end) (sym far_is) (first_bounds leaves new_right left.end end on_r))
+      least in
       let escape : h.own.escape ≡ 1 + length (new_left ++ new_right) = omega (
         arith,
         h.escape,

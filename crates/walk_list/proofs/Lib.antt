@@ -4,6 +4,7 @@ pub mod Rows
 pub mod AllLeaves
 pub mod Subtrees
 pub mod Makings
+pub mod TreeParts
 pub mod Shut
 pub mod Visiting
 pub mod LookedAt
@@ -12,3 +13,4 @@ pub mod Mended
 pub mod Halving
 pub mod Moved
 pub mod Refits
+pub mod Listed

@@ -54,7 +54,8 @@ module _ (moved : List ℕ) (first end next : ℕ) (below : AllWithin (λ x. ltb
   ]
 
   -- where the first that is not below is past the end, none is between
-  pub none_between : IsNonDecreasing moved → nat_lt (get_or moved next 0) end ≡ false → IsMovedBetween moved first end → ⊥
+  pub none_between : IsNonDecreasing moved → nat_lt (get_or moved next 0) end ≡ false →
+      IsMovedBetween moved first end → ⊥
   none_between rising e (k, lt, low, high) =
       let ordered = rising next k 0 (before_next k low) lt in
       omega (arith, ordered, high, ltb-false _ _ e)

@@ -1,5 +1,5 @@
 -- What stands after leaves moved.
-use Rattle.std.proofs.Common.{◌≡◌, ℕ, ◌<◌, refl, sym, ap, ◌∙◌, arith, inl, inr, subst, List, [], ◌∷◌, ◌++◌, length, get_or, set, All}
+use Rattle.std.proofs.Common.{◌≡◌, ℕ, ◌<◌, refl, sym, ap, ◌∙◌, arith, inl, inr, subst, List, [], ◌∷◌, ◌++◌, length, get_or, set, All, ◌⊎◌, ◌^◌}
 use Rattle.std.specs.Prelude.{Contains}
 use Rattle.std.proofs.lemmas.Bool.{cases_eq}
 use Rattle.std.proofs.lemmas.List.{get_or-set_same, get_or-set_other, length-set, ext_get_or, get_or-map, length-map}
@@ -15,8 +15,8 @@ use Rattle.walk_list.specs.declared.records.Record.{Record}
 use Rattle.walk_list.specs.Leaves.{leaf_of, leaves_of, leaf_at, no_leaf}
 use Rattle.walk_list.specs.Covering.{Bounds, Covers, CoversBy, run, fork}
 use Rattle.walk_list.specs.Lists.{Contents, IsOver}
-use Rattle.walk_list.specs.Moving.{AreOverBut}
-use Rattle.walk_list.specs.Stale.{BoundsBut, AreInWorld, HaveBoxes, IsFitTo, Moves}
+use Rattle.walk_list.specs.Moving.{AreOverBut, IsOverAsMany, IsFitTo}
+use Rattle.walk_list.specs.Stale.{BoundsBut, AreInWorld, HaveBoxes, Moves}
 
 -- no position moved
 pub moves_none : (boxes : List Box3) (leaves : List Leaf) → Moves boxes [] leaves leaves
@@ -149,3 +149,50 @@ have_boxes leaves boxes moved but = record {
       let within : p < length but.keys = omega (arith, lt, but.leaf_count) in
       omega (arith, but.numbers p within, but.lawful.to_count p within, but.count);
 }
+
+module _ (f : Contents) (boxes : List Box3) (many : IsOverAsMany f boxes) where
+  -- the leaf at a position is its key's, with the box of before
+  leaf_was : (p : ℕ) → p < length many.over.keys →
+      leaf_at f.leaves p ≡ leaf_of many.before (key_at many.over.keys p)
+  unfolding leaf_at leaves_of key_at
+  leaf_was p lt =
+      ap (λ ls. get_or ls p no_leaf) many.over.leaves
+      ∙ get_or-map (leaf_of many.before) many.over.keys p (record { code = 0; tri = 0 }) no_leaf lt
+
+  number_was : (p : ℕ) → p < length many.over.keys → (leaf_at f.leaves p).number ≡ tri_at many.over.keys p
+  unfolding leaf_of tri_at
+  number_was p lt = ap (λ (l : Leaf). l.number) (leaf_was p lt)
+
+  count_was : length f.leaves ≡ length many.over.keys
+  unfolding leaves_of
+  count_was = ap length many.over.leaves ∙ length-map many.over.keys (leaf_of many.before)
+
+  -- where each leaf has its box or is listed, the list is over the boxes but for those
+  pub over_but : (moved : List ℕ) →
+      ((p : ℕ) → p < length f.leaves → Contains moved p ⊎ IsFitTo boxes (leaf_at f.leaves p)) →
+      AreOverBut f.leaves boxes moved
+  over_but moved each = record {
+    keys = many.over.keys;
+    lawful = many.over.lawful;
+    count = many.count ∙ many.over.count;
+    leaf_count = count_was;
+    numbers = number_was;
+    fits = λ p lt. elim (each p (omega (arith, lt, count_was))) [
+      | inl listed ↦ inl listed
+      | inr fit ↦ inr (fit ∙ ap (box_of_triangle boxes) (number_was p lt))
+    ];
+  }
+
+  -- each leaf's number is that of a box, and a position fits 32 bits
+  pub as_many_have_boxes : HaveBoxes f.leaves boxes
+  as_many_have_boxes = record {
+    from_one = λ p lt.
+        let within : p < length many.over.keys = omega (arith, lt, count_was) in
+        omega (arith, number_was p within, many.over.lawful.from_one p within);
+    to_count = λ p lt.
+        let within : p < length many.over.keys = omega (arith, lt, count_was) in
+        omega (arith, number_was p within, many.over.lawful.to_count p within, many.count, many.over.count);
+  }
+
+  pub as_many_few : length f.leaves < 2 ^ 32
+  as_many_few = omega (arith, count_was, many.over.lawful.few)

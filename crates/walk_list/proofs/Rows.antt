@@ -30,6 +30,7 @@ pub record First (leaves : List Leaf) (r : Record) (rs : List Record) (a : ℕ) 
   pub past : CoversRest leaves (drop (r.escape - 1) rs) r.end
   pub below : r.escape ≢ 1 → CoversRest leaves rs a
 
+-- those of the first subtree, with what is behind
 first_of : (leaves : List Leaf) (x : Record) (xs behind : List Record) (a b : ℕ) → Covers leaves (x ∷ xs) a b →
     CoversRest leaves behind b → First leaves x (xs ++ behind) a
 first_of leaves x [] behind a b (run one end here) rest =
@@ -56,8 +57,9 @@ first_of leaves x xs behind a b (fork left right middle parts escape end here on
           (more right behind b refl on_right rest);
     }
 
-first_of_all : (leaves : List Leaf) (rs : List Record) (a : ℕ) → CoversRest leaves rs a → (r : Record) (ys : List Record) →
-    rs ≡ r ∷ ys → First leaves r ys a
+-- the same of all that is left
+first_of_all : (leaves : List Leaf) (rs : List Record) (a : ℕ) → CoversRest leaves rs a →
+    (r : Record) (ys : List Record) → rs ≡ r ∷ ys → First leaves r ys a
 first_of_all leaves [] a (done f) r ys e = absurd (omega (arith, ap length e))
 first_of_all leaves rs a (more part behind b g c rest) r ys e = whole part g c
   where

@@ -23,6 +23,7 @@ use Rattle.segment_hit.specs.declared.line.Passage.{Passage}
 use Rattle.segment_hit.specs.Lines.{IsPassageOf}
 use Rattle.walk_list.specs.Reaches.{IsLimit, IsShut}
 
+-- an order of three numbers
 at_least : (x y z : ℤ) → x ≤ℤ y → y ≤ℤ z → x ≤ℤ z
 at_least x y z h k = omega (arith, ints)
 
@@ -30,8 +31,9 @@ at_least x y z h k = omega (arith, ints)
 part_of : {p q : Point} {b : Box3} {T E : ℤ} → IsIn p q b T E → IsPart T E
 part_of h = record { positive = h.positive; begun = h.begun; ended = h.ended }
 
-module _ (tris : List Tri) (p q : Point) (seen : ℕ → Type 0) (b : Box3) (whole : ℤ) (above : pos 0 <ℤ whole) (g : Passage)
-    (is : IsPassageOf p q b whole g) (contains : (n : ℕ) → seen n → Contains b (tri_box (triangle_of tris n))) where
+module _ (tris : List Tri) (p q : Point) (seen : ℕ → Type 0) (b : Box3) (whole : ℤ) (above : pos 0 <ℤ whole)
+    (g : Passage) (is : IsPassageOf p q b whole g)
+    (contains : (n : ℕ) → seen n → Contains b (tri_box (triangle_of tris n))) where
   -- a hit lies behind the entry and before the exit
   entered : (n : ℕ) (f : Frac) → seen n → IsHit p q (triangle_of tris n) f → (g.enter.at *ℤ f.den) ≤ℤ (f.num *ℤ whole)
   entered n f s h =

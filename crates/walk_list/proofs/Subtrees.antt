@@ -1,6 +1,6 @@
 -- A subtree's records within the list: its own record, and the subtrees of its two parts.
 use Rattle.std.proofs.Common.{◌≡◌, ℕ, ◌+◌, ◌<◌, ◌≢◌, sym, ap, ◌∙◌, arith, subst, List, [], ◌∷◌, ◌++◌, length, drop, get_or, append-nil, append_assoc}
-use Rattle.std.proofs.lemmas.List.{drop_more, drop-drop, length-drop}
+use Rattle.std.proofs.lemmas.List.{get_or_default, drop_more, drop-drop, length-drop}
 use Rattle.walk_list.specs.declared.records.Leaf.{Leaf}
 use Rattle.walk_list.specs.declared.records.Record.{Record}
 use Rattle.walk_list.specs.Covering.{Bounds, Covers, CoversAll}
@@ -19,6 +19,13 @@ first_left records i x xs e =
     let head : get_or records i no_record ≡ x = cc in
     let tail : drop (i + 1) records ≡ xs = cc in
     (lt, head, tail)
+
+-- a record that is read is that of its number
+pub read_record : (records read : List Record) (i : ℕ) (x : Record) → read ≡ records → i < length records →
+    x ≡ get_or read i x → x ≡ record_at records i
+unfolding record_at
+read_record records read i x same lt is =
+    is ∙ (ap (λ xs. get_or xs i x) same ∙ get_or_default records i x no_record lt)
 
 -- the whole list is a subtree's
 pub whole_subtree : (leaves : List Leaf) (records : List Record) → CoversAll leaves records → 0 < length records →

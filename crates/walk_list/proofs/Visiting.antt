@@ -33,7 +33,8 @@ module _ (f : Contents) (p q : Point) (whole : ℤ) (v a b : Visit) (h : Halves 
     (b_at : b.at ≡ v.at + 1 + (record_at f.records (v.at + 1)).escape)
     (b_first : b.position ≡ (record_at f.records (v.at + 1)).end)
     (a_way : IsPassageOf p q (record_at f.records (v.at + 1)).fit whole a.way)
-    (b_way : IsPassageOf p q (record_at f.records (v.at + 1 + (record_at f.records (v.at + 1)).escape)).fit whole b.way) where
+    (b_way : IsPassageOf p q (record_at f.records (v.at + 1 + (record_at f.records (v.at + 1)).escape)).fit whole
+    b.way) where
   visit_a : IsVisit f p q whole a
   visit_a = record {
     within = omega (arith, a_at, h.left_in);

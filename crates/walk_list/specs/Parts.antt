@@ -36,7 +36,8 @@ abbrev pub StandsAt : List Leaf → List Record → ℕ → ℕ → Type 0
 StandsAt leaves records i a = CoversRest leaves (drop i records) a
 
 -- a step of a walk took it from record i and position a on, and added what the leaves between gave
-pub record Steps (leaves : List Leaf) (records : List Record) (q : Box3) (i a : ℕ) (before after : List ℕ) (j b : ℕ) : Type 0 where
+pub record Steps (leaves : List Leaf) (records : List Record) (q : Box3) (i a : ℕ) (before after : List ℕ)
+    (j b : ℕ) : Type 0 where
   pub on : i < j
   pub order : a ≤ b
   pub stands : StandsAt leaves records j b

@@ -125,8 +125,8 @@ fn records_of(alloc: Global, t: &Tree, leaves: &[Leaf]) -> Result<Vec<Record>, A
     Ok(records)
 }
 
-/// The walk list of a tree: `boxes[n - 1]` is the box of triangle `n`. The tree has to be fitted to the boxes, and these
-/// have to lie in the world.
+/// The walk list of a tree: `boxes[n - 1]` is the box of triangle `n`. The tree has to be fitted to the boxes, and
+/// these have to lie in the world.
 ///
 /// It takes memory for one leaf a triangle and, where triangles lie evenly, for one record for some eight of them; the
 /// recursion is at most one call deeper than the tree is high.

@@ -1,5 +1,5 @@
-//! A walk list mended after triangles moved: the moved leaves get their new boxes, and then each record with a moved leaf
-//! below it the least box round its leaves or its two parts, from below. Other records are not looked at.
+//! Records mended after their leaves moved: each with a moved leaf below it gets the least box round its leaves or its
+//! two parts, from below. What lies below any other record is not looked at.
 
 ghost use Rattle.std.specs.Prelude.{◌≡◌, ℕ, ◌<◌, ◌≤◌, false, length, All, IsTrue};
 ghost use Rattle.std.specs.List.Sorted.{IsNonDecreasing};

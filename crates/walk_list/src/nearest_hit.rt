@@ -1,5 +1,5 @@
-//! The nearest triangle that a segment meets, by a walk over the list from front to back: of a record's two parts the one
-//! that the segment enters first comes first, and what is entered behind the best hit is passed over.
+//! The nearest triangle that a segment meets, by a walk over the list from front to back: of a record's two parts the
+//! one that the segment enters first comes first, and what is entered behind the best hit is passed over.
 
 ghost use Rattle.std.specs.Prelude.{◌≡◌, ◌≢◌, ℕ, ◌+◌, ◌<◌, ◌≤◌, length, Some, None, IfSome, IsSome, All, map, ℤ};
 ghost use Rattle.fixed_box.specs.World.{InWorld, TriInWorld};
@@ -77,7 +77,8 @@ fn look_leaf<S: Triangles>(
     requires q { InWorld q.now }
     requires within { position < length f.now.leaves }
     requires limit { IsLimit l.now.whole best.hit best.most.at }
-    ensures nears { Nears (S.list tris.now) p.now q.now (λ n. n ≡ (leaf_at f.now.leaves position).number) best.hit result.hit }
+    ensures nears { Nears (S.list tris.now) p.now q.now (λ n. n ≡ (leaf_at f.now.leaves position).number) best.hit
+        result.hit }
     ensures limit { IsLimit l.now.whole result.hit result.most.at }
 {
     let leaf = leaf_of(f, position);
@@ -142,10 +143,9 @@ fn parts(l: &Line, f: &WalkList, v: &Visit) -> (Visit, Visit)
     requires inner { (record_at f.now.records v.now.at).escape ≢ 1 }
     ensures { (p q : Point) → IsLineOf p q l.now → AreParts f.now p q l.now.whole v.now result.0 result.1 }
 {
-    let count = f.records().len();
-    prove!(v.at < count);
+    let records = f.records();
     let left = v.at + 1;
-    let own = record_of(f, left);
+    let own = records[left];
     let right = left + own.escape as usize;
     let to_left = visit(l, f, left, v.position);
     let to_right = visit(l, f, right, own.end as usize);

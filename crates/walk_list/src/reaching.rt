@@ -27,8 +27,8 @@ pub(crate) fn renewed(l: &Line, best: Best, number: u32, h: (u32, Frac)) -> Best
     }
 }
 
-/// Whether a box is missed, or entered behind the best hit. One that is entered just at it is not: it may hold a triangle
-/// of a lower number that is hit as near.
+/// Whether a box is missed, or entered behind the best hit. One that is entered just at the hit is not shut: it may
+/// hold a triangle of a lower number that is hit as near.
 #[inline]
 pub(crate) fn is_shut(way: &Passage, best: &Best) -> bool
     ensures { IsTrue result → IsShut way.now best.now.most.at }

@@ -6,7 +6,7 @@ ghost use Rattle.fixed_box.specs.World.{BoxInWorld};
 
 use crate::tests::candidates::entered;
 use crate::tests::{Digits, parts, point};
-use crate::{Entry, Frac, enters, entry};
+use crate::{Entry, Frac, Passage, enters, entry, line_of, passage, reach};
 use fixed_box::{Box3, Point, in_world};
 use std::rt::HostRuntime;
 
@@ -195,4 +195,61 @@ fn small_segments_enter_at_the_least_candidate(rt: HostRuntime) {
     }
     // counted by that script, which also found 485 of them between both ends and 139 at the end alone
     assert_eq!(rt; entries, 1004);
+}
+
+/// How the line of the segment passes through the box, and the denominator.
+fn passage_in_world(p: Point, q: Point, b: &Box3) -> Option<(Passage, i64)> {
+    if in_world(&p) && in_world(&q) && box_in_world(b) {
+        let l = line_of(&p, &q);
+        Some((passage(&l, b), l.whole))
+    } else {
+        None
+    }
+}
+
+/// Where the line enters the box, and the denominator, if it is in the box at all.
+fn passed(p: Point, q: Point, b: &Box3) -> Option<(i64, i64)> {
+    let (way, whole) = passage_in_world(p, q, b)?;
+    if way.leave.at < way.enter.at || whole < way.enter.at {
+        return None;
+    }
+    Some((way.enter.at, whole))
+}
+
+/// How far the line of the segment reaches up to the fraction.
+fn reached(p: Point, q: Point, f: &Frac) -> Option<i64> {
+    if in_world(&p) && in_world(&q) && 0 <= f.num && f.num <= f.den {
+        Some(reach(&line_of(&p, &q), f).at)
+    } else {
+        None
+    }
+}
+
+/// Whether the line tells the entry that `enters` tells, or none where it tells none.
+fn agrees(p: Point, q: Point, b: &Box3) -> bool {
+    match (enters_in_world(p, q, b), passed(p, q, b)) {
+        (Some(f), Some((place, whole))) => {
+            let own = i128::from(place) * i128::from(f.den);
+            own == i128::from(f.num) * i128::from(whole) && reached(p, q, &f) == Some(place)
+        }
+        (None, None) => true,
+        _ => false,
+    }
+}
+
+#[test]
+fn a_line_enters_a_box_where_its_segment_does(rt: HostRuntime) {
+    for (segment, corners, _) in ENTRIES.iter() {
+        assert!(rt;
+            agrees(start(segment), end(segment), &between(corners)),
+            "{segment:?} {corners:?}"
+        );
+    }
+    let mut digits = Digits { seed: 21 };
+    for _ in 0..4000 {
+        let p = digits.point();
+        let q = digits.point();
+        let b = Box3::of_corners(digits.point(), digits.point());
+        assert!(rt; agrees(p, q, &b), "{p:?} {q:?} {b:?}");
+    }
 }

@@ -5,9 +5,10 @@ use Rattle.segment_hit.proofs.crossings.axis_of.Goals as goal
 
 pub returns-then-from-to : goal.returns-then-from-to
 returns-then-from-to c =
-    axis_rising c.made.result c.args.from c.args.to c.args.way c.args.others c.args.whole (omega (arith, ints, c.made.ensures.from))
-    c.requires.way c.requires.others c.requires.whole (omega (arith, ints)) c.made.ensures.rises (omega (arith, ints, c.made.ensures.scale))
-    c.made.ensures.slack
+    axis_rising c.made.result c.args.from c.args.to c.args.way c.args.others c.args.whole
+    (omega (arith, ints, c.made.ensures.from))
+    c.requires.way c.requires.others c.requires.whole (omega (arith, ints)) c.made.ensures.rises
+    (omega (arith, ints, c.made.ensures.scale)) c.made.ensures.slack
 
 pub returns-then-to-from : goal.returns-then-to-from
 returns-then-to-from c =
@@ -19,6 +20,8 @@ returns-then-to-from c =
 pub returns : goal.returns
 returns c =
     let same : c.args.from ≡ c.args.to = omega (arith, ints) in
-    axis_resting c.made-2.result c.args.from c.args.to c.args.way c.args.others c.args.whole (omega (arith, ints, c.made-2.ensures.from))
-    c.requires.way c.requires.others c.requires.whole same c.made-2.ensures.rises (omega (arith, ints, c.made-2.ensures.scale, c.times.ensures.value))
+    axis_resting c.made-2.result c.args.from c.args.to c.args.way c.args.others c.args.whole
+    (omega (arith, ints, c.made-2.ensures.from))
+    c.requires.way c.requires.others c.requires.whole same c.made-2.ensures.rises
+    (omega (arith, ints, c.made-2.ensures.scale, c.times.ensures.value))
     (omega (arith, ints, c.made-2.ensures.slack))

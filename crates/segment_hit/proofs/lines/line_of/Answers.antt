@@ -6,13 +6,16 @@ use Rattle.segment_hit.proofs.Passages.{second_first, third_first, axis_passed}
 use Rattle.segment_hit.proofs.lines.line_of.Goals as goal
 
 pub axis_of-on_x-requires-clause-way : goal.axis_of-on_x-requires-clause-way
-axis_of-on_x-requires-clause-way c = rw (number_passed c.way-x.result SPAN c.way-x.ensures.small (omega arith)) c.way-x.ensures.way
+axis_of-on_x-requires-clause-way c =
+    rw (number_passed c.way-x.result SPAN c.way-x.ensures.small (omega arith)) c.way-x.ensures.way
 
 pub axis_of-on_y-requires-clause-way : goal.axis_of-on_y-requires-clause-way
-axis_of-on_y-requires-clause-way c = rw (number_passed c.way-y.result SPAN c.way-y.ensures.small (omega arith)) c.way-y.ensures.way
+axis_of-on_y-requires-clause-way c =
+    rw (number_passed c.way-y.result SPAN c.way-y.ensures.small (omega arith)) c.way-y.ensures.way
 
 pub axis_of-on_z-requires-clause-way : goal.axis_of-on_z-requires-clause-way
-axis_of-on_z-requires-clause-way c = rw (number_passed c.way-z.result SPAN c.way-z.ensures.small (omega arith)) c.way-z.ensures.way
+axis_of-on_z-requires-clause-way c =
+    rw (number_passed c.way-z.result SPAN c.way-z.ensures.small (omega arith)) c.way-z.ensures.way
 
 pub axis_of-on_y-requires-clause-whole : goal.axis_of-on_y-requires-clause-whole
 axis_of-on_y-requires-clause-whole c =
@@ -46,10 +49,10 @@ axis_of-on_z-requires-clause-whole c =
 
 pub returns : goal.returns
 returns c = record {
-  on_x = axis_passed c.args.p.now.x c.args.q.now.x _ _ c.axis_of-on_x.result c.joined.result.x c.requires.p.x c.requires.q.x
-      c.joined.ensures.x c.joined.ensures.whole c.axis_of-on_x.ensures;
-  on_y = axis_passed c.args.p.now.y c.args.q.now.y _ _ c.axis_of-on_y.result c.joined.result.y c.requires.p.y c.requires.q.y
-      c.joined.ensures.y c.joined.ensures.whole c.axis_of-on_y.ensures;
-  on_z = axis_passed c.args.p.now.z c.args.q.now.z _ _ c.axis_of-on_z.result c.joined.result.z c.requires.p.z c.requires.q.z
-      c.joined.ensures.z c.joined.ensures.whole c.axis_of-on_z.ensures;
+  on_x = axis_passed c.args.p.now.x c.args.q.now.x _ _ c.axis_of-on_x.result c.joined.result.x
+      c.requires.p.x c.requires.q.x c.joined.ensures.x c.joined.ensures.whole c.axis_of-on_x.ensures;
+  on_y = axis_passed c.args.p.now.y c.args.q.now.y _ _ c.axis_of-on_y.result c.joined.result.y
+      c.requires.p.y c.requires.q.y c.joined.ensures.y c.joined.ensures.whole c.axis_of-on_y.ensures;
+  on_z = axis_passed c.args.p.now.z c.args.q.now.z _ _ c.axis_of-on_z.result c.joined.result.z
+      c.requires.p.z c.requires.q.z c.joined.ensures.z c.joined.ensures.whole c.axis_of-on_z.ensures;
 }

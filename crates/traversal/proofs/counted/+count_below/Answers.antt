@@ -1,6 +1,4 @@
-use Rattle.std.proofs.Common.{◌+◌, arith, sym, ap, ◌∙◌}
-use Rattle.fixed_box.specs.Extent.{boxes_meet}
-use Rattle.radix_tree.specs.declared.nodes.Node.{Node}
+use Rattle.std.proofs.Common.{◌+◌, arith, sym, ◌∙◌}
 use Rattle.traversal.proofs.Walking.{at_node, left_is_child, right_is_child, left_falls, right_falls, missed_tests, met_tests, few_tests, leaf_tests}
 use Rattle.traversal.proofs.counted.+count_below.Goals as goal
 

@@ -1,5 +1,5 @@
 use Rattle.std.proofs.Common.{◌≡◌, ◌-◌, ◌<◌, ◌^◌, length, arith, rules, ap}
-use Rattle.walk_list.proofs.Makings.{at_node, left_falls, right_falls, left_is_child, right_is_child, read_order, read_small, run_for_child, escape_small, fork_for_child, leaf_for_child}
+use Rattle.walk_list.proofs.TreeParts.{at_node, left_falls, right_falls, left_is_child, right_is_child, read_order, read_small, run_for_child, escape_small, fork_for_child, leaf_for_child}
 use Rattle.walk_list.proofs.listing.+list_below.Goals as goal
 
 pub overflow_sub-node : goal.overflow_sub-node

@@ -25,7 +25,8 @@ loop-position-preserved c =
     let x = c.index-leaves-position.result in
     let within : p < length leaves = omega (arith, c.loop-position-test.true, c.requires.within) in
     let read : get_or leaves p x ≡ leaf_at leaves p = get_or_default leaves p x no_leaf within in
-    union_bounds leaves c.loop-position.fit (get_or leaves p x).fit c.union-fit.result c.args.first p (p + 1) c.loop-position.invariant
+    union_bounds leaves c.loop-position.fit (get_or leaves p x).fit c.union-fit.result c.args.first p (p + 1)
+    c.loop-position.invariant
     (subst (λ (l : Leaf). Bounds leaves l.fit p (p + 1)) (sym read)
     (one_bounds leaves p (c.requires.world.each p within)))
     c.union-fit.ensures.least

@@ -46,7 +46,8 @@ look_below-requires g t c κs within =
     let both = c.parts.ensures c.args.p.now c.args.q.now r.line in
     let on = both.second_on in
     let inside = both.second.within in
-    (omega (arith, on, inside), (within, (r.line, (r.scene, (r.p, (r.q, (both.second, c.look_below-nearer.ensures.limit)))))))
+    let limit = c.look_below-nearer.ensures.limit in
+    (omega (arith, on, inside), (within, (r.line, (r.scene, (r.p, (r.q, (both.second, limit)))))))
 
 pub returns-clause-nears : goal.returns-clause-nears
 returns-clause-nears g t c =

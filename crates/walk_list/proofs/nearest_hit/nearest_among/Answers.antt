@@ -17,7 +17,8 @@ returns-clause-found g c =
     let leaves = c.args.f.now.leaves in
     nearest_of_all tris c.args.p c.args.q (StandsFrom leaves 0 (length leaves))
     (all_stand c.args.f.now tris c.requires.over) c.look_all-end.result.hit
-    (subst (λ (o : Option (ℕ × Frac)). Nears tris c.args.p c.args.q (StandsFrom leaves 0 (length leaves)) o c.look_all-end.result.hit)
+    (subst (λ (o : Option (ℕ × Frac)). Nears tris c.args.p c.args.q (StandsFrom leaves 0 (length leaves)) o
+    c.look_all-end.result.hit)
     c.nothing-start.ensures.none c.look_all-end.ensures.nears)
 
 pub returns-clause-only : goal.returns-clause-only
@@ -26,7 +27,8 @@ returns-clause-only g c =
     let leaves = c.args.f.now.leaves in
     some_of_all tris c.args.p c.args.q (StandsFrom leaves 0 (length leaves))
     (all_stand c.args.f.now tris c.requires.over) c.look_all-end.result.hit
-    (subst (λ (o : Option (ℕ × Frac)). Nears tris c.args.p c.args.q (StandsFrom leaves 0 (length leaves)) o c.look_all-end.result.hit)
+    (subst (λ (o : Option (ℕ × Frac)). Nears tris c.args.p c.args.q (StandsFrom leaves 0 (length leaves)) o
+    c.look_all-end.result.hit)
     c.nothing-start.ensures.none c.look_all-end.ensures.nears)
 
 pub returns-clause-value : goal.returns-clause-value
