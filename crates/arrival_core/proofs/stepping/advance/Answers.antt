@@ -5,7 +5,8 @@ use Rattle.arrival_core.proofs.stepping.advance.Goals as goal
 
 pub take-requires-clause-next : goal.take-requires-clause-next
 take-requires-clause-next c =
-    next_below c.requires.core c.args.k c.requires.worker (ap (λ x. x.phase) (sym c.climber_of.ensures) ∙ c.in-Looking.is)
+    next_below c.requires.core c.args.k c.requires.worker
+    (ap (λ x. x.phase) (sym c.climber_of.ensures) ∙ c.in-Looking.is)
 
 pub take-requires-clause-room : goal.take-requires-clause-room
 take-requires-clause-room c = may_step c.requires.core c.args.k c.requires.worker
@@ -18,7 +19,8 @@ returns-in-Looking-clause-state c = λ workers.
 
 pub open-requires-clause-node : goal.open-requires-clause-node
 open-requires-clause-node c =
-    carry_below c.requires.core c.args.k c.requires.worker c.in-Carry.l (ap (λ x. x.phase) (sym c.climber_of.ensures) ∙ c.in-Carry.is)
+    carry_below c.requires.core c.args.k c.requires.worker c.in-Carry.l
+    (ap (λ x. x.phase) (sym c.climber_of.ensures) ∙ c.in-Carry.is)
 
 pub open-requires-clause-room : goal.open-requires-clause-room
 open-requires-clause-room c = may_step c.requires.core c.args.k c.requires.worker
@@ -34,7 +36,8 @@ returns-in-Carry-clause-parts c = λ j. c.open.ensures.parts (length c.args.g.no
 
 pub arrive-requires-clause-node : goal.arrive-requires-clause-node
 arrive-requires-clause-node c =
-    opened_below c.requires.core c.args.k c.requires.worker c.in-Opened.l (ap (λ x. x.phase) (sym c.climber_of.ensures) ∙ c.in-Opened.is)
+    opened_below c.requires.core c.args.k c.requires.worker c.in-Opened.l
+    (ap (λ x. x.phase) (sym c.climber_of.ensures) ∙ c.in-Opened.is)
 
 pub arrive-requires-clause-room : goal.arrive-requires-clause-room
 arrive-requires-clause-room c = may_step c.requires.core c.args.k c.requires.worker
@@ -47,7 +50,8 @@ returns-in-Opened-clause-state c = λ workers.
 
 pub collect-requires-clause-node : goal.collect-requires-clause-node
 collect-requires-clause-node c =
-    second_below c.requires.core c.args.k c.requires.worker c.in-Second.l (ap (λ x. x.phase) (sym c.climber_of.ensures) ∙ c.in-Second.is)
+    second_below c.requires.core c.args.k c.requires.worker c.in-Second.l
+    (ap (λ x. x.phase) (sym c.climber_of.ensures) ∙ c.in-Second.is)
 
 pub collect-requires-clause-room : goal.collect-requires-clause-room
 collect-requires-clause-room c = may_step c.requires.core c.args.k c.requires.worker
@@ -78,4 +82,5 @@ returns-in-Collecting-clause-state c = λ workers.
 
 pub returns-in-Ended-clause-state : goal.returns-in-Ended-clause-state
 unfolding event_in
-returns-in-Ended-clause-state c = λ workers. sym (event_of _ c.args.k _ _ (ap (λ x. x.phase) (sym c.climber_of.ensures) ∙ c.in-Ended.is))
+returns-in-Ended-clause-state c = λ workers.
+    sym (event_of _ c.args.k _ _ (ap (λ x. x.phase) (sym c.climber_of.ensures) ∙ c.in-Ended.is))
