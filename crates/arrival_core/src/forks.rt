@@ -3,7 +3,7 @@
 ghost use Rattle.std.specs.Prelude.{◌≡◌, ◌<◌, length, slice_set, true};
 ghost use Rattle.arrival_core.specs.Frames.{other};
 ghost use Rattle.arrival_core.specs.Events.{held};
-ghost use Rattle.arrival_core.specs.Forks.{fork_at, branch_of, with_branch};
+ghost use Rattle.arrival_core.specs.Forks.{fork_at, branch_of, with_branch, climber_at};
 
 use crate::{Packet, Phase, Place, Side, Tally};
 use std::mem::size_of;
@@ -67,6 +67,14 @@ pub(crate) fn put_returned(forks: &mut [Fork], split: u32)
     ensures { forks.new ≡ slice_set forks.old split (record (fork_at forks.old split) { returned = true }) }
 {
     forks[split as usize].returned = true;
+}
+
+/// The worker of that number.
+pub(crate) fn climber_of(climbers: &[Climber], worker: u32) -> Climber
+    requires { worker < length climbers.now }
+    ensures { result ≡ climber_at climbers.now worker }
+{
+    climbers[worker as usize]
 }
 
 /// The other side of a node.
