@@ -47,7 +47,8 @@ pub struct Place {
     pub at: i64,
 }
 
-/// Where a segment enters a box and where it leaves it. It misses the box where it leaves before it enters.
+/// Where a segment enters a box and where it leaves it. It misses the box where it leaves before it enters, or enters past
+/// the end of the way.
 #[derive(Clone, Copy, Debug, Drop)]
 pub struct Passage {
     pub enter: Place,

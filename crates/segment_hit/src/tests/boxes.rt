@@ -6,7 +6,7 @@ ghost use Rattle.fixed_box.specs.World.{BoxInWorld};
 
 use crate::tests::candidates::entered;
 use crate::tests::{Digits, parts, point};
-use crate::{Entry, Frac, Passage, enters, entry, line_of, passage, reach};
+use crate::{Entry, Frac, Line, enters, entry, line_of, passage, reach};
 use fixed_box::{Box3, Point, in_world};
 use std::rt::HostRuntime;
 
@@ -197,29 +197,30 @@ fn small_segments_enter_at_the_least_candidate(rt: HostRuntime) {
     assert_eq!(rt; entries, 1004);
 }
 
-/// How the line of the segment passes through the box, and the denominator.
-fn passage_in_world(p: Point, q: Point, b: &Box3) -> Option<(Passage, i64)> {
-    if in_world(&p) && in_world(&q) && box_in_world(b) {
-        let l = line_of(&p, &q);
-        Some((passage(&l, b), l.whole))
+/// The line of a segment in the world.
+fn line_in_world(p: Point, q: Point) -> Option<Line> {
+    if in_world(&p) && in_world(&q) {
+        Some(line_of(&p, &q))
     } else {
         None
     }
 }
 
-/// Where the line enters the box, and the denominator, if it is in the box at all.
-fn passed(p: Point, q: Point, b: &Box3) -> Option<(i64, i64)> {
-    let (way, whole) = passage_in_world(p, q, b)?;
-    if way.leave.at < way.enter.at || whole < way.enter.at {
-        return None;
+/// Where the line enters the box, if it is in the box at all.
+fn passed(l: &Line, b: &Box3) -> Option<i64> {
+    if box_in_world(b) {
+        let way = passage(l, b);
+        if way.enter.at <= way.leave.at && way.enter.at <= l.whole {
+            return Some(way.enter.at);
+        }
     }
-    Some((way.enter.at, whole))
+    None
 }
 
-/// How far the line of the segment reaches up to the fraction.
-fn reached(p: Point, q: Point, f: &Frac) -> Option<i64> {
-    if in_world(&p) && in_world(&q) && 0 <= f.num && f.num <= f.den {
-        Some(reach(&line_of(&p, &q), f).at)
+/// How far the line reaches up to the fraction.
+fn reached(l: &Line, f: &Frac) -> Option<i64> {
+    if 0 <= f.num && f.num <= f.den {
+        Some(reach(l, f).at)
     } else {
         None
     }
@@ -227,10 +228,13 @@ fn reached(p: Point, q: Point, f: &Frac) -> Option<i64> {
 
 /// Whether the line tells the entry that `enters` tells, or none where it tells none.
 fn agrees(p: Point, q: Point, b: &Box3) -> bool {
-    match (enters_in_world(p, q, b), passed(p, q, b)) {
-        (Some(f), Some((place, whole))) => {
+    let Some(l) = line_in_world(p, q) else {
+        return false;
+    };
+    match (enters_in_world(p, q, b), passed(&l, b)) {
+        (Some(f), Some(place)) => {
             let own = i128::from(place) * i128::from(f.den);
-            own == i128::from(f.num) * i128::from(whole) && reached(p, q, &f) == Some(place)
+            own == i128::from(f.num) * i128::from(l.whole) && reached(&l, &f) == Some(place)
         }
         (None, None) => true,
         _ => false,
