@@ -6,6 +6,7 @@ ghost use Rattle.arrival_core.specs.Events.{held};
 ghost use Rattle.arrival_core.specs.Forks.{fork_at, branch_of, with_branch};
 
 use crate::{Packet, Phase, Place, Side, Tally};
+use std::mem::size_of;
 
 /// One side of a node: three of its word's bits, and its place.
 #[derive(Clone, Copy, Debug, PartialEq, Eq, Drop)]
@@ -33,6 +34,9 @@ pub struct Climber {
     pub phase: Phase,
     pub tally: Tally,
 }
+
+// what the machine needs for each node beside the tree
+const _: () = prove!(size_of::<Fork>() <= 92);
 
 /// One side of the node with that split.
 pub(crate) fn branch_at(forks: &[Fork], split: u32, side: Side) -> Branch

@@ -54,22 +54,23 @@ pub record IsFittedTo (index : Index) (now : List Point) (faces : List Face) : T
   pub fits : IsFitted index.tree index.boxes.items
   pub list : IsOver index.list index.boxes.items
 
--- a box and a key for each face, the box right where no corner was moved; a tree over the order of the points of the
--- build and a list, which are fitted where no vertex was moved; the chains of triangles at the vertices, if they were
--- needed yet; and the last work, which can be counted
+-- a box and a key for each face, the box right where no corner is marked as moved; a tree over the order of the points
+-- of the build and a list of as many triangles, both fitted where no vertex is marked; the chains of triangles at the
+-- vertices, once needed; and the last work, which can be counted
 pub record IsIndex (index : Index) (now : List Point) (faces : List Face) : Type 0 where
   pub boxes : length index.boxes.items ≡ length faces
   pub triangles : length index.tree.keys ≡ length faces
   pub keys : index.tree.keys ≡ order_of (boxes_at index.built.value.items faces)
   pub vertices : index.marks.vertices ≡ length now
-  pub right : (t : ℕ) → t < length faces → IsStill index.marks.moved (face_at faces t) → IsRight now faces index.boxes.items t
+  pub right : (t : ℕ) → t < length faces → IsStill index.marks.moved (face_at faces t) →
+      IsRight now faces index.boxes.items t
   pub fitted : index.marks.moved ≡ [] → IsFittedTo index now faces
   pub list : IsOverAsMany index.list index.boxes.items
   pub fans : IfSome index.fans (λ fans. AreFans fans faces (length now))
   pub work : IsCountable index.work index.tree index.boxes.items
 
 -- faces over points of the world, and an index over them, in which no vertex is marked where none was moved since the
--- last fit
+-- world was opened, refitted or built anew
 pub record IsKept (mesh : MeshLists) (now : List Point) (kept : Index) (at_rest : Bool) : Type 0 where
   pub in_world : All InWorld now
   pub few : length now ≤ MOST_POINTS

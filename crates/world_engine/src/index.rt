@@ -2,7 +2,7 @@
 //! tree's triangles as a list for walks. While points are moved these stay as they are; the next call that looks at them
 //! fits them first.
 
-ghost use Rattle.std.specs.Prelude.{◌≡◌, ◌≤◌, ◌<◌, ℕ, [], length, IsOk, IfOk, OnOk, OnErr, All};
+ghost use Rattle.std.specs.Prelude.{◌≡◌, ◌≤◌, [], length, IsOk, IfOk, OnOk, OnErr, All};
 ghost use Rattle.fixed_box.specs.World.{InWorld};
 ghost use Rattle.obj_text.specs.Meshes.{IsFaceOf};
 ghost use Rattle.world_engine.specs.Worlds.{boxes_at};
@@ -16,7 +16,7 @@ use crate::marks::Marks;
 use crate::mending::fit_moved;
 use fixed_box::{Box3, Point};
 use karras_build::{order_joined, tree_joined};
-use obj_text::{Face, MOST_FACES, MOST_POINTS};
+use obj_text::{Face, MOST_FACES};
 use outside::Memory;
 use radix_tree::Tree;
 use refit::refit;

@@ -17,8 +17,10 @@ fn fit_fan(points: &[Point], faces: &[Face], fans: &Fans, vertex: u32, boxes: &m
     requires fans { AreFans fans.now faces.now (length points.now) }
     requires within { vertex < length points.now }
     requires room { length boxes.old ≡ length faces.now }
-    ensures made { (t : ℕ) → t < length faces.now → HasVertex (face_at faces.now t) vertex → IsRight points.now faces.now boxes.new t }
-    ensures kept { (t : ℕ) → t < length faces.now → IsRight points.now faces.now boxes.old t → IsRight points.now faces.now boxes.new t }
+    ensures made { (t : ℕ) → t < length faces.now → HasVertex (face_at faces.now t) vertex →
+        IsRight points.now faces.now boxes.new t }
+    ensures kept { (t : ℕ) → t < length faces.now → IsRight points.now faces.now boxes.old t →
+        IsRight points.now faces.now boxes.new t }
 {
     let mut next = fans.latest[vertex as usize];
     while next > 0 {
@@ -30,18 +32,13 @@ fn fit_fan(points: &[Point], faces: &[Face], fans: &Fans, vertex: u32, boxes: &m
 }
 
 /// Fits the boxes of the triangles that use any of these vertices, where those of all others are fitted.
-pub fn fit_moved(
-    points: &[Point],
-    faces: &[Face],
-    fans: &Fans,
-    moved: &[u32],
-    boxes: &mut [Box3],
-)
+pub fn fit_moved(points: &[Point], faces: &[Face], fans: &Fans, moved: &[u32], boxes: &mut [Box3])
     requires named { All (IsFaceOf (length points.now)) faces.now }
     requires fans { AreFans fans.now faces.now (length points.now) }
     requires within { All (λ v. v < length points.now) moved.now }
     requires room { length boxes.old ≡ length faces.now }
-    requires still { (t : ℕ) → t < length faces.now → IsStill moved.now (face_at faces.now t) → IsRight points.now faces.now boxes.old t }
+    requires still { (t : ℕ) → t < length faces.now → IsStill moved.now (face_at faces.now t) →
+        IsRight points.now faces.now boxes.old t }
     ensures { boxes.new ≡ boxes_at points.now faces.now }
 {
     for vertex in moved {

@@ -22,8 +22,8 @@ use std::marker::Model;
 use std::thread::Threads;
 use walk_list::{nearest_among, overlaps};
 
-/// A world of triangles, which answers asks. Contracts see it as its state: its mesh, the points now and
-/// those of the last build, its last work, and whether no vertex was moved since it was opened, refitted or built anew.
+/// A world of triangles, which answers asks. Contracts see it as its state: its mesh, the points now and those of the
+/// last build, its last work, and whether no vertex was moved since it was opened, refitted or built anew.
 #[derive(Drop)]
 pub struct World {
     mesh: Mesh,
@@ -83,11 +83,13 @@ impl World {
 
     /// Answers what is asked; the points of a `Seg` and of a `Move` have to be in the world.
     ///
-    /// `Refused` is answered to no ask but `Move`, with `NoSuchVertex`, exactly where the number is no vertex's,
-    /// `NodeOf`, with `NoSuchNode`, exactly where the number is not below the count of inner nodes, and `Cells`, with
-    /// `NoSuchLevel`, exactly where the level is above `LEVELS`; the world is then as before. `Nothing`, `Move`, `Stat`,
-    /// `Work` and every refused ask take no memory; nor do `Seg` and `NodeOf` where no vertex was moved since the world
-    /// was opened, refitted or built anew. After `Memory` the world is as before.
+    /// `Refused` is answered to no ask but `Move`, with `NoSuchVertex`, exactly where the number is no vertex's (they
+    /// begin with 1), `NodeOf`, with `NoSuchNode`, exactly where the number is not below the count of inner nodes, and
+    /// `Cells`, with `NoSuchLevel`, exactly where the level is above `LEVELS`; the world is then as before.
+    ///
+    /// `Nothing`, `Move`, `Stat`, `Work` and every refused ask take no memory; nor do `Seg` and `NodeOf` where no vertex
+    /// was moved since the world was opened, refitted or built anew. After `Memory` the world is as before, and the next
+    /// ask that looks at boxes fits those that are still to be fitted.
     pub fn answer<R: Threads + Sync, G: Gate>(
         &mut self,
         rt: &R,
@@ -222,6 +224,7 @@ impl World {
         ensures state { self.new ≡ self.old }
         ensures free { is_free self.old (Ask.NodeOf number) ≡ true → IsOk result }
     {
+        // A refusal takes no memory, so it comes before any fit.
         if self.index.tree.nodes().len() as u64 <= number {
             return Ok(Reply::Refused(LineFault::NoSuchNode));
         }
