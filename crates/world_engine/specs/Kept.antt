@@ -55,8 +55,8 @@ pub record IsFittedTo (index : Index) (now : List Point) (faces : List Face) : T
   pub list : IsOver index.list index.boxes.items
 
 -- a box and a key for each face, the box right where no corner is marked as moved; a tree over the order of the points
--- of the build and a list, which are fitted where no vertex is marked; the chains of triangles at the vertices, once
--- needed; and the last work, which can be counted
+-- of the build and a list of as many triangles, both fitted where no vertex is marked; the chains of triangles at the
+-- vertices, once needed; and the last work, which can be counted
 pub record IsIndex (index : Index) (now : List Point) (faces : List Face) : Type 0 where
   pub boxes : length index.boxes.items ≡ length faces
   pub triangles : length index.tree.keys ≡ length faces

@@ -1,24 +1,28 @@
 //! A world whose vertices move about a thousand times, refitted and built anew between: each answer is that of looking
-//! through all triangles as they stand then.
+//! through all triangles as they stand then, and the last work that of the plain walk over the tree when it was asked.
 
 ghost use Rattle.std.specs.Prelude.{◌<◌};
 
 use super::asked;
 use crate::{Build, World};
 use fixed_box::{Box3, Point, Tri, box_of, in_world, union};
+use morton_key::order;
 use obj_text::{Face, read_mesh};
 use outside::OpenGate;
 use query_script::{Ask, Reply};
+use radix_tree::plain;
+use refit::refit;
 use segment_hit::{Frac, cmp, hit};
 use std::alloc::{AllocError, Global};
 use std::cmp::Ordering;
 use std::process::Abort;
 use std::test::Fail;
 use std::thread::Threads;
+use traversal::overlaps;
 
-const VERTICES: usize = 120;
+const VERTICES: usize = 300;
 
-const TRIANGLES: usize = 200;
+const TRIANGLES: usize = 500;
 
 /// The next number of a sequence that jumps about.
 fn jump(seed: u64) -> u64 {
@@ -116,6 +120,17 @@ impl Scan {
         Ok(numbers)
     }
 
+    /// The boxes of all triangles.
+    fn boxes(&self, alloc: Global) -> Result<Vec<Box3>, AllocError> {
+        let mut boxes = Vec::new(alloc);
+        for position in 0..TRIANGLES {
+            if let Some(tri) = self.triangle(position) {
+                boxes.push(box_of(&tri))?;
+            }
+        }
+        Ok(boxes)
+    }
+
     /// The least box round all triangles.
     fn around(&self) -> Option<Box3> {
         let mut whole: Option<Box3> = None;
@@ -169,6 +184,22 @@ fn moves<R: Threads + Sync + Abort + AllocGlobal>(
     Ok(())
 }
 
+/// The work of a box by the plain walk, over a tree that is built over some boxes and then fitted to others.
+fn plain_work<R: Abort + AllocGlobal>(
+    rt: &R,
+    built: &[Box3],
+    now: &[Box3],
+    around: &Box3,
+) -> Result<u64, Fail> {
+    let alloc = rt.alloc();
+    assert!(rt; built.len() <= 1000);
+    assert!(rt; now.len() == built.len());
+    assert!(rt; built.iter().all(|b| in_world(&b.lo) && in_world(&b.hi)));
+    let mut tree = plain(alloc, order(alloc, built)?, built)?;
+    refit(alloc, &mut tree, now)?;
+    Ok(overlaps(alloc, &tree, now, around)?.work)
+}
+
 /// Compares a box query, a segment query and the root's box with the scan.
 fn compares<R: Threads + Sync + Abort + AllocGlobal>(
     rt: &R,
@@ -208,6 +239,8 @@ fn a_thousand_moves_are_seen_by_the_next_answers(rt: HostRuntime) -> Result<(), 
         |_| "no memory for the world",
     )?;
     let mut seed = 7;
+    let mut built = scan.boxes(alloc)?;
+    let mut last = 0;
     for turn in 0..1000_usize {
         moves(
             &rt,
@@ -224,9 +257,17 @@ fn a_thousand_moves_are_seen_by_the_next_answers(rt: HostRuntime) -> Result<(), 
         if turn % 90 == 50 {
             let reply = asked(&rt, &mut world, &Ask::Rebuild)?;
             assert!(rt; matches!(reply, Reply::Rebuilt));
+            built = scan.boxes(alloc)?;
         }
         if turn % 3 == 0 {
-            compares(&rt, &mut world, &scan, place(seed), place(jump(seed)))?;
+            let (p, q) = (place(seed), place(jump(seed)));
+            compares(&rt, &mut world, &scan, p, q)?;
+            let around = Box3::of_corners(p, q);
+            last = plain_work(&rt, &built, &scan.boxes(alloc)?, &around)?;
+        }
+        if turn % 4 != 2 {
+            let reply = asked(&rt, &mut world, &Ask::Work)?;
+            assert!(rt; matches!(reply, Reply::WorkIs(work) if work == last));
         }
         seed = jump(jump(seed));
     }
