@@ -76,6 +76,13 @@ ROWS = [
      b"overlaps 0\nmiss\nline 3: no such node\ngroups 0\nwork 0\n", 6),
     ("nothing to move in an empty mesh", b"", 1, b"move 1 0 0 0\nrefit\nrebuild\n",
      b"line 1: no such vertex\nrefitted\nrebuilt\n", 6),
+    ("no cell in an empty mesh", b"", 1, b"cells 0\nstat\n",
+     b"cells 0 0\ntriangles 0 nodes 0 height 0 cells 0\n", 0),
+    ("no cell for one triangle", T, 1, b"cells 0\ncells 18\nstat\n",
+     b"cells 0 0\ncells 18 0\ntriangles 1 nodes 0 height 0 cells 0\n", 0),
+    ("a cell at each level for two codes alike", TWICE, 1, b"cells 18\ncells 17\ncells 1\ncells 0\ncells 19\nstat\n",
+     b"cells 18 1: 15762598695796784\ncells 17 1: 1970324836974598\ncells 1 1: 7\ncells 0 1: 0\n"
+     b"line 5: no such level\ntriangles 2 nodes 1 height 1 cells 19\n", 6),
     ("an empty script", T, 1, b"", b"", 0),
     ("references of all spellings, and a fan", FAN, 1, b"groups\nbox 2 6 0 2 6 0\nbox 4 0 0 4 0 0\n",
      b"groups 1: default 5\noverlaps 2: 4 5\noverlaps 4: 1 2 3 4\n", 0),
@@ -98,6 +105,7 @@ ROWS = [
     ("a level as exporters write it", LEVEL, 64, b"groups\nbox 3 1 -1 3.5 2 1\nwork\nseg 5 1 4 5 1 -4\nnode 0\nnode 2\n",
      b"groups 2: Floor 2 Ramp 2\noverlaps 2: 1 2\nwork 5\nhit 3 7/16\nnode 0 0 3 1 0 0 0 416 256 80\n"
      b"node 2 2 3 2 256 0 0 416 256 80\n", 0),
+    ("the counts of a level", LEVEL, 64, b"stat\n", b"triangles 4 nodes 3 height 2 cells 28\n", 0),
     ("three triangles apart", APART, 1, b"node 1\nseg 301 1 -1 301 1 1\n", b"node 1 0 1 0 0 0 0 104 4 0\nmiss\n", 0),
     ("a triangle that moves, is refitted and built anew", APART, 1,
      b"node 1\nseg 301 1 -1 301 1 1\nmove 1 300 0 0\nmove 2 304 0 0\nmove 3 300 4 0\nseg 301 1 -1 301 1 1\n"
@@ -107,8 +115,15 @@ ROWS = [
     ("work stays through moves and builds", TWICE, 1,
      b"box 4 4 0 9 9 0\nmove 1 -9 0 0\nwork\nrefit\nwork\nrebuild\nwork\nmove 1 9 9 9\nbox 9 9 9 9 9 9\nwork\n",
      b"overlaps 2: 1 2\nmoved 1\nwork 3\nrefitted\nwork 3\nrebuilt\nwork 3\nmoved 1\noverlaps 2: 1 2\nwork 3\n", 0),
+    ("cells of the last build alone", T + b"v -4 -4 -4\nf 4 4 4\n", 1,
+     b"cells 0\ncells 1\nmove 4 2 2 0\ncells 1\nrefit\nstat\nrebuild\ncells 1\nstat\n",
+     b"cells 0 1: 0\ncells 1 0\nmoved 4\ncells 1 0\nrefitted\ntriangles 2 nodes 1 height 1 cells 1\nrebuilt\n"
+     b"cells 1 1: 7\ntriangles 2 nodes 1 height 1 cells 19\n", 0),
     ("lines that go on, and carriage returns", JOINED, 1, b"groups\nbox 4 4 0 9 9 0\nwork\n",
      b"groups 1: default 1\noverlaps 1: 1\nwork 1\n", 0),
+    ("the counts of one triangle", JOINED, 1, b"stat\n", b"triangles 1 nodes 0 height 0 cells 0\n", 0),
+    ("a level that is too long", T, 1, b"cells 1234567890123456789012345\ncells 99999999999999999999\ncells 018\n",
+     b"line 1: number too long\nline 2: no such level\ncells 18 0\n", 6),
     ("the reasons to refuse a line", T, 1,
      b"frob 1\nseg 1 2 3\nbox a 0 0 1 1 1\n# a comment\nbox 2147483648 0 0 0 0 0\nnode 0\n"
      b"node 1234567890123456789012345\nseg 131072 0 0 0 0 0\n" + b"x" * 1001 + b"\n" + b"x" * 1000 + b"\n",
@@ -266,13 +281,14 @@ def line(word, steps, unit):
 
 
 def script_over(mesh, unit, chance, queries):
-    """A script over a mesh: every node, then boxes and segments, small ones, ones that touch, ones through corners."""
+    """A script over a mesh: the cells of each level, every node, then boxes and segments, small ones, ones that touch, ones through corners."""
     points = mesh.points or [(0, 0, 0)]
     low, high = oracle.least_box(points + points)
     inside = lambda: tuple(chance.randint(a, b) for a, b in zip(low, high))
     bring_in = lambda point: tuple(min(max(x, -131_072), 131_071) for x in point)
     triangles = len(mesh.faces)
-    out = ["groups\n", "work\n"] + [f"node {number}\n" for number in range(triangles + 1)]
+    out = ["groups\n", "work\n", "stat\n"] + [f"cells {level}\n" for level in range(oracle.LEVELS + 2)]
+    out += [f"node {number}\n" for number in range(triangles + 1)]
     out += [line("box", [*low, *high], unit), "work\n"]
     for _ in range(queries):
         p, q, corner = inside(), inside(), chance.choice(points)
@@ -394,7 +410,8 @@ ODD_LINES = ["", "  ", "# box", "#", "frob", "Box 0 0 0 1 1 1", "box", "box 0 0 
              "move", "move 1 0 0", "move 0 0 0 0", "move 01 0 0 0", "move +1 0 0 0", "move 1 0 0 2048", "move 1 0 x 0", "move 1.0 0 0 0",
              "move 99999999999 0 0 0", "move 1234567890123456789012345 x 0 0", "refit", "refit 1", "rebuild", "rebuild 0",
              "\tbox\v0 0 0\f1 1 1\r", "work\r", "box 0 0 0 0 0 0 # no comment here", "box +1 -.5e1 5. 0 0 0", "groups#", "w\u00f6rk",
-             "\\", "work \\"]
+             "\\", "work \\", "cells", "cells 0 0", "cells -1", "cells 1.0", "cells 007", "cells 19", "cells 99999999999",
+             "cells 1234567890123456789012345", "stat 0", "stat", "stats", "Stat"]
 
 
 def random_script(chance, mesh_text, unit):
@@ -423,7 +440,8 @@ def random_script(chance, mesh_text, unit):
             lines.append(" ".join(["move", str(chance.randint(0, len(mesh.points) + 1 if mesh else 3))]
                                   + [spelled(chance, x, unit) for x in to]))
         elif kind < 0.9:
-            lines.append(chance.choice(["groups", "work", "refit", "refit", "rebuild"]))
+            lines.append(chance.choice(["groups", "work", "refit", "refit", "rebuild", "stat",
+                                        f"cells {chance.randrange(oracle.LEVELS + 2)}"]))
         else:
             lines.append(chance.choice(ODD_LINES))
     if chance.random() < 0.1:

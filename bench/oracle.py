@@ -16,6 +16,7 @@ import argparse
 import math
 import re
 import sys
+from collections import Counter
 from fractions import Fraction
 
 # ------------------------------------------------------------------------------------------------ limits
@@ -30,12 +31,14 @@ MESH_MOST = 268_435_456         # bytes
 SCRIPT_MOST = 16_777_216        # bytes
 LINE_MOST = 1_000               # bytes of a script line without its line feed
 DIGITS_MOST = 24                # from the first that is not 0 on
+LEVELS = 18                     # halvings of the world on each axis
 CAP = 2**40                     # what a number that is far too large counts as
 
 DONE, USAGE, MESH_REFUSED, READ_FAULT, WRITE_FAULT, MEMORY, LINES_REFUSED = range(7)
 
 # and how many words follow each
-WORDS = {b"box": 6, b"seg": 6, b"move": 4, b"refit": 0, b"rebuild": 0, b"node": 1, b"groups": 0, b"work": 0}
+WORDS = {b"box": 6, b"seg": 6, b"move": 4, b"refit": 0, b"rebuild": 0, b"node": 1, b"cells": 1,
+         b"groups": 0, b"stat": 0, b"work": 0}
 
 sys.set_int_max_str_digits(0)
 
@@ -200,7 +203,7 @@ def morton_code(box):
     """The bits of the box's middle, counted from the world's lowest corner, taken in turn: x, y, z from the highest."""
     middle = [(low + high) // 2 + 131_072 for low, high in zip(*box)]
     code = 0
-    for bit in reversed(range(18)):
+    for bit in reversed(range(LEVELS)):
         for coordinate in middle:
             code = 2 * code + (coordinate >> bit & 1)
     return code
@@ -242,6 +245,20 @@ class Tree:
             return number is None or meet(self.nodes[number][3], query) and reached(self.above[number])
 
         return 1 + 2 * sum(reached(number) for number in self.nodes)
+
+
+    def height(self):
+        """How many inner nodes stand on the longest way down."""
+        def depth(number):
+            return 0 if number is None else 1 + depth(self.above[number])
+
+        return max(map(depth, self.nodes), default=0)
+
+    def cells(self, level):
+        """The prefixes of the level that two or more codes have, rising. A prefix is a code without its last octal digits,
+        one for each level further down."""
+        prefixes = Counter(code // 8 ** (LEVELS - level) for code in self.codes)
+        return sorted(prefix for prefix, count in prefixes.items() if count > 1)
 
 
 # ------------------------------------------------------------------------------------------------ segments
@@ -330,6 +347,16 @@ class World:
         first, last, split, (low, high) = self.tree.nodes[number]
         return " ".join(map(str, ("node", number, first, last, split, *low, *high)))
 
+    def cells(self, level):
+        if level > LEVELS:
+            raise Refused("no such level")
+        return listed(f"cells {level}", self.tree.cells(level))
+
+    def stat(self):
+        cells = sum(len(self.tree.cells(level)) for level in range(LEVELS + 1))
+        return (f"triangles {len(self.triangles)} nodes {len(self.tree.nodes)} height {self.tree.height()}"
+                f" cells {cells}")
+
     def groups(self):
         counts = {}
         for name in self.mesh.names:
@@ -358,7 +385,7 @@ def answer(world, line, unit, words=WORDS):
         raise Refused("unknown word")
     if len(rest) != words[first]:
         raise Refused("wrong count of words")
-    numbers, coordinates = (rest[:1], rest[1:]) if first in (b"node", b"move") else ([], rest)
+    numbers, coordinates = (rest[:1], rest[1:]) if first in (b"node", b"move", b"cells") else ([], rest)
     numbers = [whole_value(word) for word in numbers]
     steps = []
     for word in coordinates:
