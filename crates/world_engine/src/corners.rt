@@ -46,12 +46,7 @@ pub fn triangle(points: &[Point], face: &Face) -> Tri
 }
 
 /// Fits the boxes in as many threads as there are processors.
-fn fit_in_threads<R: Threads + Sync>(
-    rt: &R,
-    points: &[Point],
-    faces: &[Face],
-    boxes: &mut [Box3],
-)
+fn fit_in_threads<R: Threads + Sync>(rt: &R, points: &[Point], faces: &[Face], boxes: &mut [Box3])
     requires named { All (IsFaceOf (length points.now)) faces.now }
     requires room { length boxes.old ≡ length faces.now }
     ensures { boxes.new ≡ boxes_at points.now faces.now }

@@ -30,13 +30,7 @@ fn fit_fan(points: &[Point], faces: &[Face], fans: &Fans, vertex: u32, boxes: &m
 }
 
 /// Fits the boxes of the triangles that use any of these vertices, where those of all others are fitted.
-pub fn fit_moved(
-    points: &[Point],
-    faces: &[Face],
-    fans: &Fans,
-    moved: &[u32],
-    boxes: &mut [Box3],
-)
+pub fn fit_moved(points: &[Point], faces: &[Face], fans: &Fans, moved: &[u32], boxes: &mut [Box3])
     requires named { All (IsFaceOf (length points.now)) faces.now }
     requires fans { AreFans fans.now faces.now (length points.now) }
     requires within { All (λ v. v < length points.now) moved.now }
