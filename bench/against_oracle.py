@@ -3,16 +3,16 @@
 
     python3 bench/against_oracle.py [--program PATH] [--files FOLDER] [--random COUNT] [--long COUNT] [--seed N] [--all]
 
-1. Worked rows, whose replies were found by hand: the oracle is compared with them first, then the program; and lists of
-   words of the command line.
+1. Worked rows, whose replies were found by hand: the oracle is compared with them first, then the program; lists of words
+   of the command line; and the large workload, `--grid N`.
 2. Real files of other people's tools, in ../shared/objs: at 64 steps to a unit, at the largest unit at which the file fits,
    and at the smallest; skipped with a message where the folder is missing.
 3. Random small meshes and scripts from a fixed seed, faulty ones among them; some of the meshes also among so many rows that
    are passed over that the program reads the text in parts.
 
 The program is asked first which of the script words and options it knows. A word that it does not know is to be answered
-`unknown word`, and is no word of the oracle either; without `--unit` all runs are at 64. Both are told, and `--all` makes
-them a failure. What differs is kept in a folder of the temporary directory, and its path is printed.
+`unknown word`, and is no word of the oracle either; without `--unit` all runs are at 64. All that lacks is told, and `--all` makes it
+a failure. What differs is kept in a folder of the temporary directory, and its path is printed.
 """
 
 import argparse
@@ -153,8 +153,19 @@ SPANS = [(0, 7, 3), (0, 1, 0), (2, 3, 2), (0, 3, 1), (4, 7, 4), (5, 7, 6), (5, 6
 ACCEPTED = ["MESH", "--unit=1 MESH", "MESH --workers 64 --build karras", "--build=karras --unit 000007 MESH --workers=1",
             "MESH --unit 65536"]
 REFUSED = ["", "MESH MESH", "MESH --workers 0", "MESH --workers 65", "MESH --workers 2 --workers 2", "--grid 1", "--grid 2 MESH",
-           "--grid 2 --unit 1", "-- MESH", "MESH --build fast", "MESH --unit +1", "--help", "-h", "--version", "-V", "MESH --unit 0",
+           "--grid 2 --unit 1", "--grid 513", "--grid +2", "--grid 2 --grid 2", "--grid 0000002",
+           "-- MESH", "MESH --build fast", "MESH --unit +1", "--help", "-h", "--version", "-V", "MESH --unit 0",
            "MESH --unit 65537", "MESH --unit 0000001", "MESH --unit", "MESH --unit=", "MESH -u 1", "--unit MESH", "MESH --Unit 1"]
+
+
+# the large workload of two squares along each side, by hand, and the counts of squares that the oracle is asked
+GRID_OF_TWO = b"""triangles 8 nodes 7 height 3 cells 46
+hits 8 misses 0 numbers 29 overlaps 46 work 100
+hits 8 misses 0 numbers 29 overlaps 35 work 100
+triangles 8 nodes 7 height 3 cells 22
+hits 8 misses 0 numbers 29 overlaps 35 work 100
+"""
+GRIDS = [2, 3, 4, 5, 8, 13, 30, 64]
 
 
 def tree_of_codes(codes):
@@ -185,6 +196,9 @@ def oracle_agrees_with_rows():
     if spans != SPANS or tree.codes != CODES:
         bad += 1
         print(f"ORACLE: tree over {CODES}: {spans}, by hand {SPANS}")
+    if oracle.grid_report(2) != GRID_OF_TWO:
+        bad += 1
+        print(f"ORACLE: two squares along each side: {oracle.grid_report(2)}, by hand {GRID_OF_TWO}")
     for name, mesh, unit, script, output, status in ROWS:
         if script is not None and oracle.run(mesh, script, unit) != (output, status):
             bad += 1
@@ -203,6 +217,7 @@ class Program:
         with open(probe, "wb") as file:
             file.write(T)
         self.has_unit = self.start(probe, b"", ["--unit", "64"])[1] != oracle.USAGE
+        self.has_grid = subprocess.run([path, "--grid", "2"], input=b"", capture_output=True, check=False).returncode == 0
         self.words = {word: count for word, count in oracle.WORDS.items()
                       if b"unknown word" not in self.start(probe, b" ".join([word] + [b"0"] * count) + b"\n", [])[0]}
 
@@ -251,6 +266,19 @@ def compare_words(program):
         if (done.stdout, done.returncode) != ((b"", oracle.DONE) if accepted else (b"bad command line\n", oracle.USAGE)):
             program.bad += 1
             print(f"DIFFERS: the words `{words}`: status {done.returncode}, {done.stdout[:100]}")
+
+
+def compare_grids(program):
+    """The large workload, by several numbers of workers."""
+    for squares in GRIDS:
+        expected = oracle.grid_report(squares)
+        for workers in (1, 4, 7):
+            words = ["--grid", str(squares), f"--workers={workers}"]
+            done = subprocess.run([program.path, *words], input=b"", capture_output=True, check=False)
+            program.compared += 1
+            if (done.stdout, done.returncode) != (expected, oracle.DONE):
+                program.bad += 1
+                print(f"DIFFERS: --grid {squares} by {workers} workers: status {done.returncode}, {done.stdout}")
 
 
 def compare_rows(program):
@@ -513,6 +541,7 @@ def main():
         program = Program(chosen.program, folder)
         lacks = [word.decode() for word in oracle.WORDS if word not in program.words]
         lacks += [] if program.has_unit else ["--unit"]
+        lacks += [] if program.has_grid else ["--grid"]
         if lacks:
             print("NOT KNOWN to this program, and so not compared:", ", ".join(lacks))
         compare_rows(program)
@@ -520,6 +549,9 @@ def main():
         if program.has_unit:
             compare_words(program)
             print(f"words of the command line: {len(ACCEPTED)} lists accepted, {len(REFUSED)} refused")
+        if program.has_grid:
+            compare_grids(program)
+            print(f"the large workload: {len(GRIDS)} counts of squares, by 1, 4 and 7 workers")
         compare_real_files(program, random.Random(chosen.seed), chosen.files)
         compare_random(program, random.Random(chosen.seed), chosen.random)
         compare_long(program, random.Random(chosen.seed), chosen.long)

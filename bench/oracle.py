@@ -2,8 +2,9 @@
 """The answers of `world`, by another way: a plain program that follows the documents word for word and is in no hurry.
 
     python3 bench/oracle.py MESH [--unit U] < SCRIPT
+    python3 bench/oracle.py --grid N
 
-It writes what `world MESH --unit U < SCRIPT` is to write, and ends with the same status. Nothing of the Rattle code is
+It writes what `world MESH --unit U < SCRIPT`, or `world --grid N`, is to write, and ends with the same status. Nothing of the Rattle code is
 used or imitated: number words become exact fractions, the tree is the recursion from the top, a box query tests the box
 of every triangle, and a segment query solves a linear equation, in fractions, with every triangle. It stands on Python's
 standard library alone. Meshes of some thousand triangles are its measure.
@@ -423,11 +424,66 @@ def run(mesh_text, script, unit=UNIT, words=WORDS):
     return b"".join(output), status
 
 
+# ------------------------------------------------------------------------------------------------ the large workload
+
+SPACING, CORNER, HEIGHTS, QUERIES = 256, 65_536, 1_024, 8
+
+
+def height_field(squares):
+    """The mesh of so many squares along each side, two triangles to a square, in one group."""
+    mesh, row = Mesh(), squares + 1
+    for j in range(row):
+        for i in range(row):
+            mesh.points.append((SPACING * i - CORNER, SPACING * j - CORNER, (73 * i + 151 * j + 29 * i * j) % HEIGHTS))
+    for j in range(squares):
+        for i in range(squares):
+            near, beside, across, above = (y * row + x for x, y in ((i, j), (i + 1, j), (i + 1, j + 1), (i, j + 1)))
+            mesh.faces += [(near, beside, across), (near, across, above)]
+    mesh.names = [b"grid"] * len(mesh.faces)
+    return mesh
+
+
+def one_pass(world, squares):
+    """Eight segments straight down and eight boxes, and what is summed of their replies."""
+    hits = misses = numbers = overlaps = work = 0
+    for k in range(QUERIES):
+        x = (131 * k * k + 17) % (SPACING * squares) - CORNER
+        y = (57 * k * k + 91 * k) % (SPACING * squares) - CORNER
+        struck = world.seg((x, y, 2_000), (x, y, -1_000)).split()
+        if struck[0] == "hit":
+            hits, numbers = hits + 1, numbers + int(struck[1])
+        else:
+            misses += 1
+        overlaps += int(world.box(((x, y, 0), (x + 1_024, y + 1_024, 500))).split()[1].rstrip(":"))
+        work += world.last_work
+    return f"hits {hits} misses {misses} numbers {numbers} overlaps {overlaps} work {work}"
+
+
+def grid_report(squares):
+    """The five lines of the large workload."""
+    world = World(height_field(squares))
+    lines = [world.stat(), one_pass(world, squares)]
+    for k in range(QUERIES):
+        place = 5 * k % len(world.points)
+        x, y, _ = world.points[place]
+        world.move(place + 1, (x, y, 1_000 - 10 * k))
+    lines.append(one_pass(world, squares))
+    world.rebuild()
+    lines += [world.stat(), one_pass(world, squares)]
+    return "".join(line + "\n" for line in lines).encode()
+
+
 def main():
     parser = argparse.ArgumentParser(description="Answers a script over a mesh as `world` is to answer it.")
-    parser.add_argument("mesh")
+    parser.add_argument("mesh", nargs="?")
+    parser.add_argument("--grid", type=int, choices=range(2, 513), metavar="2..512")
     parser.add_argument("--unit", type=int, default=UNIT, choices=range(1, UNIT_MOST + 1), metavar="1..65536")
     chosen = parser.parse_args()
+    if (chosen.mesh is None) == (chosen.grid is None):
+        parser.error("one of MESH and --grid is wanted")
+    if chosen.grid:
+        sys.stdout.buffer.write(grid_report(chosen.grid))
+        sys.exit(DONE)
     try:
         with open(chosen.mesh, "rb") as file:
             text = file.read()

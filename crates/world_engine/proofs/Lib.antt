@@ -2,7 +2,6 @@ pub mod DeskAnswers
 pub mod Ends
 pub mod Stops
 pub mod RefusedMeshes
-pub mod Complete
 pub mod WorldBoxes
 pub mod FanLaws
 pub mod Marking
@@ -13,3 +12,6 @@ pub mod GroupCounts
 pub mod OpenedWords
 mod Examples
 pub mod NodeCounts
+pub mod SumSteps
+pub mod AskedInTurn
+pub mod Telling

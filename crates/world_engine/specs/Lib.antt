@@ -9,3 +9,7 @@ pub mod Kept
 pub mod Grouping
 pub mod Runs
 pub mod Desks
+pub mod Workload
+pub mod Sums
+pub mod Additions
+pub mod Reports

@@ -13,7 +13,8 @@ use Rattle.world_engine.specs.declared.limits.TheConstants.{SCRIPT_MOST}
 use Rattle.query_script.specs.declared.replies.Reply.{Reply}
 use Rattle.query_script.specs.Asks.{ask_of}
 use Rattle.query_script.specs.Replies.{reply_text, is_refused}
-use Rattle.world_engine.specs.Words.{Opening, opening_of}
+use Rattle.world_engine.specs.Words.{Opening, opening_of, grid_of}
+use Rattle.world_engine.specs.Reports.{report_of}
 use Rattle.world_engine.specs.Worlds.{WorldState, world_of, reply_of, after}
 use Rattle.world_engine.specs.Refusals.{refusal_text}
 
@@ -64,12 +65,17 @@ file_output unit None script = Some (says [] ReadFault)
 file_output unit (Some file) script =
     if nat_lt MOST_BYTES (length file) then Some (says (codes "mesh too long\n") MeshRefused) else mesh_output unit (mesh_of unit file) script
 
--- the output where there is an opening, or none
+-- the output where a mesh file is opened, or none
 abbrev pub opening_output : Option Opening → Option Files → Option (List ℕ) → Option Output
 opening_output None files script = Some (says (codes "bad command line\n") Usage)
 opening_output (Some opening) None script = None
 opening_output (Some opening) (Some files) script = file_output opening.unit (get files opening.name) script
 
+-- the output where the large workload is asked for, or not
+abbrev pub words_output : Option ℕ → Option Opening → Option Files → Option (List ℕ) → Option Output
+words_output (Some side) opening files script = Some (says (report_of side) Done)
+words_output None opening files script = opening_output opening files script
+
 -- the output of words, files and a script, as far as what it depends on is told
 abbrev pub output_of : List (List ℕ) → Option Files → Option (List ℕ) → Option Output
-output_of words files script = opening_output (opening_of words) files script
+output_of words files script = words_output (grid_of words) (opening_of words) files script

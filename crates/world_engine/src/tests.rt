@@ -6,7 +6,7 @@ mod moving;
 ghost use Rattle.std.specs.Prelude.{◌≤◌, length};
 ghost use Rattle.query_script.specs.Asks.{IsAskable};
 
-use crate::{Build, Status, World, run};
+use crate::{Build, Status, World, grid_report, run};
 use obj_text::read_mesh;
 use outside::{Failed, MemShelf, MemSink, MemSource, Memory, Name, OpenGate, Shelf, Source};
 use query_script::{Ask, Reply, read_line, reply_text};
@@ -21,6 +21,13 @@ const TRIANGLE: &[u8] = b"v 0 0 0\nv 4 0 0\nv 0 4 0\nf 1 2 3\n";
 /// Three such triangles in a row, a hundred units apart.
 const THREE: &[u8] =
     b"v 0 0 0\nv 4 0 0\nv 0 4 0\nv 100 0 0\nv 104 0 0\nv 100 4 0\nv 200 0 0\nv 204 0 0\nv 200 4 0\nf 1 2 3\nf 4 5 6\nf 7 8 9\n";
+
+/// What the large workload of two squares along each side writes.
+const REPORT: &[u8] = b"triangles 8 nodes 7 height 3 cells 46\n\
+hits 8 misses 0 numbers 29 overlaps 46 work 100\n\
+hits 8 misses 0 numbers 29 overlaps 35 work 100\n\
+triangles 8 nodes 7 height 3 cells 22\n\
+hits 8 misses 0 numbers 29 overlaps 35 work 100\n";
 
 /// A box that touches the triangle's box and not the triangle, as a script line.
 const TOUCHING: &[u8] = b"box 4 4 0 9 9 0\n";
@@ -279,7 +286,7 @@ fn worked_scripts_are_answered_byte_for_byte(rt: HostRuntime) -> Result<(), Fail
 #[test]
 fn words_choose_the_unit_or_are_refused(rt: HostRuntime) -> Result<(), Fail> {
     let outside = b"mesh line 1: outside the world\n";
-    let rows: [(&str, &[u8], Status, &[u8]); 12] = [
+    let rows: [(&str, &[u8], Status, &[u8]); 14] = [
         (
             "--unit 1 level.obj",
             b"v 131071 0 0\n",
@@ -330,7 +337,14 @@ fn words_choose_the_unit_or_are_refused(rt: HostRuntime) -> Result<(), Fail> {
             b"bad command line\n",
         ),
         ("--help", TRIANGLE, Status::Usage, b"bad command line\n"),
-        ("--grid 512", TRIANGLE, Status::Usage, b"bad command line\n"),
+        ("--grid 1", TRIANGLE, Status::Usage, b"bad command line\n"),
+        (
+            "--grid 2 level.obj",
+            TRIANGLE,
+            Status::Usage,
+            b"bad command line\n",
+        ),
+        ("--grid=2", TRIANGLE, Status::Done, REPORT),
         ("other.obj", TRIANGLE, Status::ReadFault, b""),
     ];
     for (line, mesh, status, output) in rows {
@@ -748,5 +762,55 @@ fn a_world_is_asked_without_a_script(rt: HostRuntime) -> Result<(), Fail> {
     for (line, text) in rows {
         answers(&rt, &mut world, line, text)?;
     }
+    Ok(())
+}
+
+/// Neither shelf nor script is touched, so that they fail is not seen.
+#[test]
+fn the_large_workload_needs_no_file_and_no_script(rt: HostRuntime) -> Result<(), Fail> {
+    let devices = Devices {
+        mesh_fail: 1,
+        script_fail: 1,
+        ..in_pieces(7)
+    };
+    words_come_to(
+        &rt,
+        "--workers 3 --grid 2",
+        TRIANGLE,
+        b"work\n",
+        &devices,
+        Status::Done,
+        REPORT,
+        "two squares a side",
+    )?;
+    let devices = Devices {
+        out_fail: 2,
+        ..in_pieces(7)
+    };
+    words_come_to(
+        &rt,
+        "--grid 2",
+        TRIANGLE,
+        b"work\n",
+        &devices,
+        Status::WriteFault,
+        b"triangl",
+        "a write that fails",
+    )
+}
+
+#[test]
+fn the_large_workload_is_the_same_by_any_number_of_workers(rt: HostRuntime) -> Result<(), Fail> {
+    let one = grid_report(&rt, rt.alloc(), 64, Build::Karras, 1, &OpenGate)
+        .ok()
+        .expect(&rt, "memory");
+    let seven = grid_report(&rt, rt.alloc(), 64, Build::Karras, 7, &OpenGate)
+        .ok()
+        .expect(&rt, "memory");
+    assert!(rt; one == seven, "one worker and seven");
+    assert!(rt;
+        one.starts_with(b"triangles 8192 nodes 8191 height "),
+        "its first line"
+    );
     Ok(())
 }
