@@ -75,7 +75,8 @@ module _ (x : Setting) (ok : IsTask x) where
       let n = node_of x ok t lt in
       let l = packet_of_range x ok n.first t (left_range x ok t lt) in
       let r = packet_of_range x ok (suc t) n.last (right_range x ok t lt) in
-      let whole_fit = least_of_children x.boxes x.keys n.first t n.last _ _ _ (low x ok t lt) (high x ok t lt) l.fit r.fit
+      let whole_fit = least_of_children x.boxes x.keys n.first t n.last _ _ _ (low x ok t lt) (high x ok t lt) l.fit
+      r.fit
       (union_of-is_least _ _) in
       rw (left_is x ok t lt) (rw (right_is x ok t lt) (packet_parts _ _
       (first_is x ok t lt ∙ sym l.first) (last_is x ok t lt ∙ sym r.last) refl

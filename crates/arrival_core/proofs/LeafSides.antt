@@ -68,7 +68,8 @@ module _ (x : Setting) (ok : IsTask x) where
       rw here refl
 
   -- a position stands on a side where it is its leaf
-  pub at_leaf : (t : ℕ) (d : Side) (p q : ℕ) → t < length x.keys - 1 → child_of x.keys t d ≡ leaf p → q < length x.keys →
+  pub at_leaf : (t : ℕ) (d : Side) (p q : ℕ) → t < length x.keys - 1 → child_of x.keys t d ≡ leaf p → q < length
+      x.keys →
       at (above_leaf_of x.keys q).split (above_leaf_of x.keys q).side t d ≡ bit (q == p)
   at_leaf t d p q lt h lq = elim (cases_eq q p) [
     | inl e ↦

@@ -70,7 +70,8 @@ module _ (f : Frame) (s : State) (ok : IsLawful f s) (k : ℕ) (lt : k < f.worke
       omega (arith, most, sum_of_same f.workers f.batches)
 
   -- the steps of a worker stay below their type
-  pub steps_small : f.workers ≤ MOST_WORKERS → f.batches ≤ 2 ^ 20 → f.nodes ≤ 2 ^ 20 → (s.worker k).tally.steps + 1 < 2 ^ 64
+  pub steps_small : f.workers ≤ MOST_WORKERS → f.batches ≤ 2 ^ 20 → f.nodes ≤ 2 ^ 20 → (s.worker k).tally.steps + 1 <
+      2 ^ 64
   steps_small few short low =
       let mine = over_has_one f s k (λ w. w.tally.steps) lt in
       let product : f.workers * f.batches ≤ MOST_WORKERS * 2 ^ 20 = mul-le-mul few short in

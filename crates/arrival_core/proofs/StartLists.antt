@@ -42,7 +42,8 @@ part_blank live (suc n) zero = record { order = omega arith; within = omega arit
 part_blank live (suc n) (suc k) = part_blank live n k
 
 -- lists that are filled so, and forks as they start, are the lists of a start
-pub start_lists : (g : Terrain) (workers : ℕ) → 0 < workers → workers ≤ MOST_WORKERS → IsTerrain g → (forks : List Fork) →
+pub start_lists : (g : Terrain) (workers : ℕ) → 0 < workers → workers ≤ MOST_WORKERS → IsTerrain g →
+    (forks : List Fork) →
     length forks ≡ length g.tree.now.nodes →
     ((t : ℕ) → t < length forks → IsStartFork (frame_at g workers) t (fork_at forks t)) →
     AreStartLists (core_over g (replicate g.batches false) forks (replicate workers new_climber))
@@ -61,7 +62,8 @@ start_lists g workers one few ok forks count start =
     }
 
 -- the same, of lists that were made apart
-pub start_lists_of : (g : Terrain) (workers : ℕ) → 0 < workers → workers ≤ MOST_WORKERS → IsTerrain g → (forks : List Fork) →
+pub start_lists_of : (g : Terrain) (workers : ℕ) → 0 < workers → workers ≤ MOST_WORKERS → IsTerrain g →
+    (forks : List Fork) →
     length forks ≡ length g.tree.now.nodes →
     ((t : ℕ) → t < length forks → IsStartFork (frame_at g workers) t (fork_at forks t)) →
     (claimed : List Bool) (filled : List Fork) (climbers : List Climber) → claimed ≡ replicate g.batches false →

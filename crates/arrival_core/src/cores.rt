@@ -15,10 +15,10 @@ ghost use Rattle.arrival_core.specs.Replays.{state_after, event_count, collect_c
 ghost use Rattle.arrival_core.specs.Complete.{HaveEnded, IsComplete};
 ghost use Rattle.arrival_core.specs.Stopped.{unreturned_count, Waits};
 ghost use Rattle.arrival_core.specs.Cores.{setting_of, frame_of_core, state_of, IsCore, core_over};
-ghost use Rattle.arrival_core.specs.Forks.{fork_at, climber_at};
+ghost use Rattle.arrival_core.specs.Forks.{fork_at};
 
-use crate::forks::{Climber, Fork, branch_at};
-use crate::stepping::{advance, phase_at};
+use crate::forks::{Climber, Fork, branch_at, climber_of};
+use crate::stepping::advance;
 use crate::terrains::Terrain;
 use crate::{Packet, Phase, Place, Side, Tally};
 use std::marker::Model;
@@ -92,7 +92,7 @@ pub fn phase_of(s: &CoreState<'_>, worker: u32) -> Phase
     ensures value { result ≡ ((state_of s.now).worker worker).phase }
     ensures carries { Carries (frame_of_core s.now) (state_of s.now) result }
 {
-    phase_at(s.climbers.as_slice(), worker)
+    climber_of(s.climbers.as_slice(), worker).phase
 }
 
 /// How many nodes a worker has fitted, and how many events it has had.
@@ -100,15 +100,7 @@ pub fn tally_of(s: &CoreState<'_>, worker: u32) -> Tally
     requires { worker < (setting_of s.now).workers }
     ensures { result ≡ ((state_of s.now).worker worker).tally }
 {
-    tally_at(s.climbers.as_slice(), worker)
-}
-
-/// The tally of a worker in a list.
-fn tally_at(climbers: &[Climber], k: u32) -> Tally
-    requires { k < length climbers.now }
-    ensures { result ≡ (climber_at climbers.now k).tally }
-{
-    climbers[k as usize].tally
+    climber_of(s.climbers.as_slice(), worker).tally
 }
 
 /// The packet that rests in the place of one side of the node with that split. It is `None` exactly where the place
@@ -176,9 +168,7 @@ pub fn replay(s: &mut CoreState<'_>, schedule: &[u32]) -> u64
     let _nodes = s.forks.len();
     let mut count = 0;
     for worker in schedule {
-        if step(s, *worker) {
-            count += 1;
-        }
+        count += u64::from(step(s, *worker));
     }
     count
 }

@@ -3,9 +3,10 @@
 ghost use Rattle.std.specs.Prelude.{◌≡◌, ◌<◌, length, slice_set, true};
 ghost use Rattle.arrival_core.specs.Frames.{other};
 ghost use Rattle.arrival_core.specs.Events.{held};
-ghost use Rattle.arrival_core.specs.Forks.{fork_at, branch_of, with_branch};
+ghost use Rattle.arrival_core.specs.Forks.{fork_at, branch_of, with_branch, climber_at};
 
 use crate::{Packet, Phase, Place, Side, Tally};
+use std::mem::size_of;
 
 /// One side of a node: three of its word's bits, and its place.
 #[derive(Clone, Copy, Debug, PartialEq, Eq, Drop)]
@@ -33,6 +34,9 @@ pub struct Climber {
     pub phase: Phase,
     pub tally: Tally,
 }
+
+// what the machine needs for each node beside the tree
+const _: () = prove!(size_of::<Fork>() <= 92);
 
 /// One side of the node with that split.
 pub(crate) fn branch_at(forks: &[Fork], split: u32, side: Side) -> Branch
@@ -63,6 +67,14 @@ pub(crate) fn put_returned(forks: &mut [Fork], split: u32)
     ensures { forks.new ≡ slice_set forks.old split (record (fork_at forks.old split) { returned = true }) }
 {
     forks[split as usize].returned = true;
+}
+
+/// The worker of that number.
+pub(crate) fn climber_of(climbers: &[Climber], worker: u32) -> Climber
+    requires { worker < length climbers.now }
+    ensures { result ≡ climber_at climbers.now worker }
+{
+    climbers[worker as usize]
 }
 
 /// The other side of a node.

@@ -148,9 +148,9 @@ fn listed<'a>(g: Terrain<'a>, alloc: Global, workers: u32) -> Result<CoreState<'
 /// The machine before its first event.
 ///
 /// The tree has two keys or more, `boxes[t - 1]` is the box of triangle `t`, and `live` are the positions whose boxes
-/// may have changed, rising, one at least. The tree's boxes are the least for some list of boxes that gives the triangle
-/// at every other position the same box. There are 1 to `MOST_WORKERS` workers. It takes memory for two branches a node
-/// and one bit a batch; the only error is want of memory.
+/// may have changed, rising, one at least. The tree is fitted to some list of boxes that gives the triangle at every
+/// other position the same box. There are 1 to `MOST_WORKERS` workers. It takes memory for two branches a node and a
+/// claim bit a batch; the only error is want of memory.
 pub fn start<'a>(
     alloc: Global,
     tree: &'a Tree,

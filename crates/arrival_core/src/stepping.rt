@@ -10,7 +10,9 @@ ghost use Rattle.arrival_core.specs.Events.{has_event, take, open_side, arrive, 
 ghost use Rattle.arrival_core.specs.Terrains.{IsTerrain, frame_at};
 ghost use Rattle.arrival_core.specs.Cores.{IsCore, core_over};
 
-use crate::forks::{Branch, Climber, Fork, across, branch_at, packet_in, put_branch, put_returned};
+use crate::forks::{
+    Branch, Climber, Fork, across, branch_at, climber_of, packet_in, put_branch, put_returned,
+};
 use crate::resuming::{after_arrival, after_leaving, after_taking, one_step};
 use crate::terrains::Terrain;
 use crate::{Load, Packet, Phase, Place};
@@ -22,7 +24,7 @@ fn go_on(climbers: &mut [Climber], k: u32, phase: Phase)
     ensures { climbers.new ≡ slice_set climbers.old k
         (record (climber_at climbers.old k) { phase = phase; tally = stepped (climber_at climbers.old k).tally }) }
 {
-    let was = climbers[k as usize];
+    let was = climber_of(climbers, k);
     climbers[k as usize] = Climber {
         next: was.next,
         from: was.from,
@@ -30,14 +32,6 @@ fn go_on(climbers: &mut [Climber], k: u32, phase: Phase)
         phase,
         tally: one_step(was.tally),
     };
-}
-
-/// The phase of a worker.
-pub(crate) fn phase_at(climbers: &[Climber], k: u32) -> Phase
-    requires { k < length climbers.now }
-    ensures { result ≡ (climber_at climbers.now k).phase }
-{
-    climbers[k as usize].phase
 }
 
 /// A worker opens a side.
@@ -86,7 +80,7 @@ pub(crate) fn arrive(g: &Terrain<'_>, forks: &mut [Fork], climbers: &mut [Climbe
         place: Place::Holds(l.packet),
     };
     put_branch(forks, l.split, l.side, now);
-    let climber = climbers[k as usize];
+    let climber = climber_of(climbers, k);
     climbers[k as usize] = after_arrival(g, climber, l, second);
 }
 
@@ -150,7 +144,7 @@ pub(crate) fn leave(
     };
     put_branch(forks, l.split, side, now);
     put_returned(forks, l.split);
-    let climber = climbers[k as usize];
+    let climber = climber_of(climbers, k);
     climbers[k as usize] = after_leaving(g, climber, l, found);
 }
 
@@ -169,13 +163,14 @@ pub(crate) fn take(g: &Terrain<'_>, claimed: &mut [bool], climbers: &mut [Climbe
     ensures parts { (j : ℕ) → HasPart (length g.now.live.now) (climber_at climbers.old j) →
         HasPart (length g.now.live.now) (climber_at climbers.new j) }
 {
-    let climber = climbers[k as usize];
+    let climber = climber_of(climbers, k);
     let was = claimed[climber.next as usize];
     claimed[climber.next as usize] = true;
     climbers[k as usize] = after_taking(g, climber, was);
 }
 
 /// A worker has its next event, if it has one.
+#[tactic(auto, unfolding(crate::specs::Events::has_event))]
 pub(crate) fn advance(
     g: &Terrain<'_>,
     claimed: &mut [bool],
@@ -198,7 +193,7 @@ pub(crate) fn advance(
     ensures climbers { length climbers.new ≡ length climbers.old }
     ensures parts { (j : ℕ) → HasPart (length g.now.live.now) (climber_at climbers.new j) }
 {
-    match phase_at(climbers, k) {
+    match climber_of(climbers, k).phase {
         Phase::Looking => {
             take(g, claimed, climbers, k);
             true

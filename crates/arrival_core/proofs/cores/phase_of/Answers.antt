@@ -8,6 +8,6 @@ use Rattle.arrival_core.proofs.cores.phase_of.Goals as goal
 pub returns-clause-carries : goal.returns-clause-carries
 returns-clause-carries c =
     let ok : IsCore c.args.s.now = subst IsCore c.s.view_is c.s.invariant.1 in
-    subst (Carries (frame_of_core c.args.s.now) (state_of c.args.s.now)) (sym (c.phase_at.ensures
+    subst (Carries (frame_of_core c.args.s.now) (state_of c.args.s.now)) (sym (ap (λ x. x.phase) c.climber_of.ensures
     ∙ ap (λ cs. (climber_at cs c.args.worker).phase) (c.as_slice.ensures.value ∙ ap (λ v. v.climbers) c.s.view_is)))
     (ok.lawful.workers c.args.worker (workers_are c.args.s.now c.args.worker c.requires)).carries

@@ -1,29 +1,26 @@
-use Rattle.std.proofs.Common.{subst, sym, ◌∙◌, arith, get_or}
+use Rattle.std.proofs.Common.{◌≡◌, refl, ap, subst, ◌∙◌, arith, get_or, inl, inr}
+use Rattle.std.proofs.lemmas.Bool.{cases_Bool}
 use Rattle.std.proofs.lemmas.List.{get_or_default}
+use Rattle.arrival_core.specs.Sums.{bit}
 use Rattle.arrival_core.specs.Cores.{IsCore}
+use Rattle.arrival_core.proofs.PutLaws.{bit_le}
 use Rattle.arrival_core.proofs.CoreLaws.{core_frame, workers_are}
 use Rattle.arrival_core.proofs.Schedules.{passes_lawful, collects_once}
 use Rattle.arrival_core.proofs.Replaying.{replay_more, replay_done, replay_complete}
 use Rattle.arrival_core.proofs.cores.replay.Goals as goal
-use Rattle.arrival_core.proofs.cores.replay.Goals.{then-step, else-step}
 
 pub loop-worker-preserved : goal.loop-worker-preserved
-loop-worker-preserved c = elim c.if-step.branch [
-  | then-step w ↦ replay_more c.args.s.now c.loop-worker.s c.step.new.s c.args.schedule.now c.loop-worker.worker-index
-      (get_or c.args.schedule.now c.loop-worker.worker-index 0) c.loop-worker.count c.if-step.count
-      c.loop-worker-test.true
-      (get_or_default c.args.schedule.now c.loop-worker.worker-index 0 _ c.loop-worker-test.true)
-      c.loop-worker.invariant c.step.ensures.setting c.step.ensures.event
-      (let e = sym c.step.ensures.answer ∙ w.if-step.true in rw e (omega (arith, w.count-is)))
-      (omega (arith, w.count-is, c.loop-worker.invariant.most))
-  | else-step w ↦ replay_more c.args.s.now c.loop-worker.s c.step.new.s c.args.schedule.now c.loop-worker.worker-index
-      (get_or c.args.schedule.now c.loop-worker.worker-index 0) c.loop-worker.count c.if-step.count
-      c.loop-worker-test.true
-      (get_or_default c.args.schedule.now c.loop-worker.worker-index 0 _ c.loop-worker-test.true)
-      c.loop-worker.invariant c.step.ensures.setting c.step.ensures.event
-      (let e = sym c.step.ensures.answer ∙ w.if-step.false in rw e (omega (arith, w.count-is)))
-      (omega (arith, w.count-is, c.loop-worker.invariant.most))
-]
+loop-worker-preserved c =
+    let one : c.from-count.result ≡ bit c.step.result = elim (cases_Bool c.step.result) [
+      | inl h ↦ c.from-count.ensures ∙ rw h refl
+      | inr h ↦ c.from-count.ensures ∙ rw h refl
+    ] in
+    replay_more c.args.s.now c.loop-worker.s c.step.new.s c.args.schedule.now c.loop-worker.worker-index
+    (get_or c.args.schedule.now c.loop-worker.worker-index 0) c.loop-worker.count _ c.loop-worker-test.true
+    (get_or_default c.args.schedule.now c.loop-worker.worker-index 0 _ c.loop-worker-test.true)
+    c.loop-worker.invariant c.step.ensures.setting c.step.ensures.event
+    (omega (arith, one, ap bit c.step.ensures.answer))
+    (omega (arith, one, bit_le c.step.result, c.loop-worker.invariant.most))
 
 pub returns-clause-played : goal.returns-clause-played
 returns-clause-played c = (replay_done c.args.s.now c.loop-worker.s c.args.schedule.now c.loop-worker.count

@@ -1,11 +1,12 @@
 use Rattle.std.proofs.Common.{ap, sym, ◌∙◌, length}
-use Rattle.arrival_core.specs.Events.{event_in, has_event}
+use Rattle.arrival_core.specs.Events.{event_in}
 use Rattle.arrival_core.proofs.RoomLaws.{event_of, may_step, next_below, carry_below, opened_below, second_below, collecting_below}
 use Rattle.arrival_core.proofs.stepping.advance.Goals as goal
 
 pub take-requires-clause-next : goal.take-requires-clause-next
 take-requires-clause-next c =
-    next_below c.requires.core c.args.k c.requires.worker (sym c.phase_at.ensures ∙ c.in-Looking.is)
+    next_below c.requires.core c.args.k c.requires.worker
+    (ap (λ x. x.phase) (sym c.climber_of.ensures) ∙ c.in-Looking.is)
 
 pub take-requires-clause-room : goal.take-requires-clause-room
 take-requires-clause-room c = may_step c.requires.core c.args.k c.requires.worker
@@ -14,15 +15,12 @@ pub returns-in-Looking-clause-state : goal.returns-in-Looking-clause-state
 unfolding event_in
 returns-in-Looking-clause-state c = λ workers.
     c.take.ensures.state workers c.args.forks.now ∙
-    sym (event_of _ c.args.k _ _ (sym c.phase_at.ensures ∙ c.in-Looking.is))
-
-pub returns-in-Looking-clause-answer : goal.returns-in-Looking-clause-answer
-unfolding has_event
-returns-in-Looking-clause-answer c = sym (ap has_event (sym c.phase_at.ensures ∙ c.in-Looking.is))
+    sym (event_of _ c.args.k _ _ (ap (λ x. x.phase) (sym c.climber_of.ensures) ∙ c.in-Looking.is))
 
 pub open-requires-clause-node : goal.open-requires-clause-node
 open-requires-clause-node c =
-    carry_below c.requires.core c.args.k c.requires.worker c.in-Carry.l (sym c.phase_at.ensures ∙ c.in-Carry.is)
+    carry_below c.requires.core c.args.k c.requires.worker c.in-Carry.l
+    (ap (λ x. x.phase) (sym c.climber_of.ensures) ∙ c.in-Carry.is)
 
 pub open-requires-clause-room : goal.open-requires-clause-room
 open-requires-clause-room c = may_step c.requires.core c.args.k c.requires.worker
@@ -31,18 +29,15 @@ pub returns-in-Carry-clause-state : goal.returns-in-Carry-clause-state
 unfolding event_in
 returns-in-Carry-clause-state c = λ workers.
     c.open.ensures.state c.args.g.now.live.now c.args.claimed.now ∙
-    sym (event_of _ c.args.k _ _ (sym c.phase_at.ensures ∙ c.in-Carry.is))
-
-pub returns-in-Carry-clause-answer : goal.returns-in-Carry-clause-answer
-unfolding has_event
-returns-in-Carry-clause-answer c = sym (ap has_event (sym c.phase_at.ensures ∙ c.in-Carry.is))
+    sym (event_of _ c.args.k _ _ (ap (λ x. x.phase) (sym c.climber_of.ensures) ∙ c.in-Carry.is))
 
 pub returns-in-Carry-clause-parts : goal.returns-in-Carry-clause-parts
 returns-in-Carry-clause-parts c = λ j. c.open.ensures.parts (length c.args.g.now.live.now) j (c.requires.core.parts j)
 
 pub arrive-requires-clause-node : goal.arrive-requires-clause-node
 arrive-requires-clause-node c =
-    opened_below c.requires.core c.args.k c.requires.worker c.in-Opened.l (sym c.phase_at.ensures ∙ c.in-Opened.is)
+    opened_below c.requires.core c.args.k c.requires.worker c.in-Opened.l
+    (ap (λ x. x.phase) (sym c.climber_of.ensures) ∙ c.in-Opened.is)
 
 pub arrive-requires-clause-room : goal.arrive-requires-clause-room
 arrive-requires-clause-room c = may_step c.requires.core c.args.k c.requires.worker
@@ -51,15 +46,12 @@ pub returns-in-Opened-clause-state : goal.returns-in-Opened-clause-state
 unfolding event_in
 returns-in-Opened-clause-state c = λ workers.
     c.arrive.ensures.state workers c.args.claimed.now ∙
-    sym (event_of _ c.args.k _ _ (sym c.phase_at.ensures ∙ c.in-Opened.is))
-
-pub returns-in-Opened-clause-answer : goal.returns-in-Opened-clause-answer
-unfolding has_event
-returns-in-Opened-clause-answer c = sym (ap has_event (sym c.phase_at.ensures ∙ c.in-Opened.is))
+    sym (event_of _ c.args.k _ _ (ap (λ x. x.phase) (sym c.climber_of.ensures) ∙ c.in-Opened.is))
 
 pub collect-requires-clause-node : goal.collect-requires-clause-node
 collect-requires-clause-node c =
-    second_below c.requires.core c.args.k c.requires.worker c.in-Second.l (sym c.phase_at.ensures ∙ c.in-Second.is)
+    second_below c.requires.core c.args.k c.requires.worker c.in-Second.l
+    (ap (λ x. x.phase) (sym c.climber_of.ensures) ∙ c.in-Second.is)
 
 pub collect-requires-clause-room : goal.collect-requires-clause-room
 collect-requires-clause-room c = may_step c.requires.core c.args.k c.requires.worker
@@ -68,11 +60,7 @@ pub returns-in-Second-clause-state : goal.returns-in-Second-clause-state
 unfolding event_in
 returns-in-Second-clause-state c = λ workers.
     c.collect.ensures.state c.args.g.now.live.now c.args.claimed.now ∙
-    sym (event_of _ c.args.k _ _ (sym c.phase_at.ensures ∙ c.in-Second.is))
-
-pub returns-in-Second-clause-answer : goal.returns-in-Second-clause-answer
-unfolding has_event
-returns-in-Second-clause-answer c = sym (ap has_event (sym c.phase_at.ensures ∙ c.in-Second.is))
+    sym (event_of _ c.args.k _ _ (ap (λ x. x.phase) (sym c.climber_of.ensures) ∙ c.in-Second.is))
 
 pub returns-in-Second-clause-parts : goal.returns-in-Second-clause-parts
 returns-in-Second-clause-parts c = λ j. c.collect.ensures.parts (length c.args.g.now.live.now) j
@@ -81,7 +69,7 @@ returns-in-Second-clause-parts c = λ j. c.collect.ensures.parts (length c.args.
 pub leave-requires-clause-node : goal.leave-requires-clause-node
 leave-requires-clause-node c =
     collecting_below c.requires.core c.args.k c.requires.worker c.in-Collecting.l c.in-Collecting.found
-    (sym c.phase_at.ensures ∙ c.in-Collecting.is)
+    (ap (λ x. x.phase) (sym c.climber_of.ensures) ∙ c.in-Collecting.is)
 
 pub leave-requires-clause-room : goal.leave-requires-clause-room
 leave-requires-clause-room c = may_step c.requires.core c.args.k c.requires.worker
@@ -90,16 +78,9 @@ pub returns-in-Collecting-clause-state : goal.returns-in-Collecting-clause-state
 unfolding event_in
 returns-in-Collecting-clause-state c = λ workers.
     c.leave.ensures.state workers c.args.claimed.now ∙
-    sym (event_of _ c.args.k _ _ (sym c.phase_at.ensures ∙ c.in-Collecting.is))
-
-pub returns-in-Collecting-clause-answer : goal.returns-in-Collecting-clause-answer
-unfolding has_event
-returns-in-Collecting-clause-answer c = sym (ap has_event (sym c.phase_at.ensures ∙ c.in-Collecting.is))
+    sym (event_of _ c.args.k _ _ (ap (λ x. x.phase) (sym c.climber_of.ensures) ∙ c.in-Collecting.is))
 
 pub returns-in-Ended-clause-state : goal.returns-in-Ended-clause-state
 unfolding event_in
-returns-in-Ended-clause-state c = λ workers. sym (event_of _ c.args.k _ _ (sym c.phase_at.ensures ∙ c.in-Ended.is))
-
-pub returns-in-Ended-clause-answer : goal.returns-in-Ended-clause-answer
-unfolding has_event
-returns-in-Ended-clause-answer c = sym (ap has_event (sym c.phase_at.ensures ∙ c.in-Ended.is))
+returns-in-Ended-clause-state c = λ workers.
+    sym (event_of _ c.args.k _ _ (ap (λ x. x.phase) (sym c.climber_of.ensures) ∙ c.in-Ended.is))

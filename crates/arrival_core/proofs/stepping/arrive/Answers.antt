@@ -1,28 +1,13 @@
-use Rattle.std.proofs.Common.{refl, ap, ◌∙◌, arith, length}
+use Rattle.std.proofs.Common.{refl, ap, ◌∙◌, length}
 use Rattle.arrival_core.specs.Forks.{fork_at, branch_of}
-use Rattle.arrival_core.proofs.ClimberLaws.{climber_is, parts_set}
+use Rattle.arrival_core.proofs.ClimberLaws.{parts_set}
 use Rattle.arrival_core.proofs.StateLaws.{arrive_shown}
 use Rattle.arrival_core.specs.Terrains.{frame_at}
 use Rattle.arrival_core.proofs.stepping.arrive.Goals as goal
 
-pub after_arrival-requires-clause-part : goal.after_arrival-requires-clause-part
-after_arrival-requires-clause-part c =
-    let e = climber_is c.args.climbers.now c.args.k c.index-climbers-k.result c.requires.worker c.index-climbers-k.is in
-    omega (arith, c.requires.part.order, ap (λ x. x.from) e, ap (λ x. x.to) e)
-
-pub after_arrival-requires-clause-within : goal.after_arrival-requires-clause-within
-after_arrival-requires-clause-within c =
-    let e = climber_is c.args.climbers.now c.args.k c.index-climbers-k.result c.requires.worker c.index-climbers-k.is in
-    omega (arith, c.requires.part.within, ap (λ x. x.to) e)
-
-pub after_arrival-requires-clause-room : goal.after_arrival-requires-clause-room
-after_arrival-requires-clause-room c =
-    let e = climber_is c.args.climbers.now c.args.k c.index-climbers-k.result c.requires.worker c.index-climbers-k.is in
-    omega (arith, c.requires.room.steps, ap (λ x. x.tally.steps) e)
-
 pub returns-clause-state : goal.returns-clause-state
 returns-clause-state c = λ workers claimed.
-    let e = climber_is c.args.climbers.now c.args.k c.index-climbers-k.result c.requires.worker c.index-climbers-k.is in
+    let e = c.climber_of-climber.ensures in
     let second = ap (λ x. x.arrived) (c.branch_at-second.ensures
     ∙ ap (branch_of (fork_at c.args.forks.now c.args.l.split)) c.across.ensures) in
     rw c.put_branch.ensures

@@ -1,6 +1,6 @@
 use Rattle.std.proofs.Common.{refl, ap, ◌∙◌, ◌<◌, arith, length, set}
 use Rattle.arrival_core.specs.Forks.{fork_at, branch_of, with_branch}
-use Rattle.arrival_core.proofs.ClimberLaws.{climber_is, parts_set}
+use Rattle.arrival_core.proofs.ClimberLaws.{parts_set}
 use Rattle.arrival_core.proofs.StateLaws.{leave_shown}
 use Rattle.arrival_core.specs.Terrains.{frame_at}
 use Rattle.arrival_core.specs.Settings.{frame_of}
@@ -8,30 +8,10 @@ use Rattle.arrival_core.specs.declared.forks.Branch.{Branch}
 use Rattle.arrival_core.specs.declared.packets.Place.TheVariants.{Holds}
 use Rattle.arrival_core.proofs.stepping.leave.Goals as goal
 
-pub after_leaving-requires-clause-part : goal.after_leaving-requires-clause-part
-after_leaving-requires-clause-part c =
-    let e = climber_is c.args.climbers.now c.args.k c.index-climbers-k.result c.requires.worker c.index-climbers-k.is in
-    omega (arith, c.requires.part.order, ap (λ x. x.from) e, ap (λ x. x.to) e)
-
-pub after_leaving-requires-clause-within : goal.after_leaving-requires-clause-within
-after_leaving-requires-clause-within c =
-    let e = climber_is c.args.climbers.now c.args.k c.index-climbers-k.result c.requires.worker c.index-climbers-k.is in
-    omega (arith, c.requires.part.within, ap (λ x. x.to) e)
-
-pub after_leaving-requires-clause-steps : goal.after_leaving-requires-clause-steps
-after_leaving-requires-clause-steps c =
-    let e = climber_is c.args.climbers.now c.args.k c.index-climbers-k.result c.requires.worker c.index-climbers-k.is in
-    omega (arith, c.requires.room.steps, ap (λ x. x.tally.steps) e)
-
-pub after_leaving-requires-clause-fits : goal.after_leaving-requires-clause-fits
-after_leaving-requires-clause-fits c =
-    let e = climber_is c.args.climbers.now c.args.k c.index-climbers-k.result c.requires.worker c.index-climbers-k.is in
-    omega (arith, c.requires.room.fits, ap (λ x. x.tally.fits) e)
-
 pub returns-clause-state : goal.returns-clause-state
 unfolding frame_of
 returns-clause-state c = λ workers claimed.
-    let e = climber_is c.args.climbers.now c.args.k c.index-climbers-k.result c.requires.worker c.index-climbers-k.is in
+    let e = c.climber_of-climber.ensures in
     let was = c.branch_at-was.ensures
     ∙ ap (branch_of (fork_at c.args.forks.now c.args.l.split)) c.across-side.ensures in
     let x : Branch = record {
