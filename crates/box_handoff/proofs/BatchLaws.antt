@@ -1,5 +1,5 @@
 -- Batches of positions, and what a worker does with them.
-use Rattle.std.proofs.Common.{◌≡◌, ℕ, zero, suc, ◌+◌, ◌-◌, ◌*◌, ◌/◌, ◌<◌, ◌≤◌, Bool, List, [], ◌∷◌, length, take, drop, get_or, min, sym, refl, ap, ◌∙◌, subst, arith, ne_eqb, eq-eqb, drop-cons}
+use Rattle.std.proofs.Common.{◌≡◌, ℕ, zero, suc, ◌+◌, ◌-◌, ◌*◌, ◌/◌, ◌<◌, ◌≤◌, Bool, List, [], ◌∷◌, length, take, drop, get_or, min, sym, refl, ap, ◌∙◌, subst, arith, ne_eqb, drop-cons}
 use Rattle.std.specs.Prelude.{if◌then◌else◌, slice_index}
 use Rattle.arrival_core.specs.declared.packets.Load.{Load}
 use Rattle.arrival_core.specs.declared.packets.Tally.{Tally}
@@ -27,7 +27,7 @@ unfolding frame frame_of
 batches_are g = refl
 
 -- the positions of a batch
-pub batch_is : (g : Given) (k : ℕ) → (frame g).batch k ≡ take 64 (drop (64 * k) g.live)
+batch_is : (g : Given) (k : ℕ) → (frame g).batch k ≡ take 64 (drop (64 * k) g.live)
 unfolding frame frame_of
 batch_is g k = refl
 
@@ -59,7 +59,7 @@ batch_end g k e is in_ = batch_is g k ∙ cases (native.Mathlib.Decide.dec_le (6
         take_short (drop (64 * k) g.live) 64 (e - 64 * k) (omega arith) (omega arith)
 
 -- the first of what is pending, and the rest
-pub one_less : (l : List ℕ) (i e : ℕ) → i < e → e ≤ length l →
+one_less : (l : List ℕ) (i e : ℕ) → i < e → e ≤ length l →
     take (e - i) (drop i l) ≡ slice_index l i ∷ take (e - (i + 1)) (drop (i + 1) l)
 one_less l i e h k = let d : drop i l ≡ get_or l i 0 ∷ drop (suc i) l = drop-cons l i 0 (omega arith) in
     let n : e - i ≡ suc (e - (i + 1)) = omega arith in let s : suc i ≡ i + 1 = omega arith in
@@ -71,7 +71,7 @@ pub none_left : (l : List ℕ) (i e : ℕ) → e ≤ i → take (e - i) (drop i 
 none_left l i e h = let z : e - i ≡ 0 = omega arith in ap (λ (m : ℕ). take m (drop i l)) z
 
 -- the worker has taken the first of what is pending
-pub facing : (f : Frame) (cur : Mine) (next p : ℕ) (ps l : List ℕ) (t : Tally) (load : Load) →
+facing : (f : Frame) (cur : Mine) (next p : ℕ) (ps l : List ℕ) (t : Tally) (load : Load) →
     worker_of (mine cur) ≡ resume f next l t → l ≡ p ∷ ps
     → load ≡ record { split = (f.above_leaf p).split; side = (f.above_leaf p).side; packet = f.leaf_packet p } →
     worker_of (mine cur) ≡ record { next = next; pending = ps; phase = Carry load; tally = t }
@@ -79,17 +79,11 @@ facing f cur next p ps l t load is e a = is ∙ ap (λ (x : List ℕ). resume f 
     ∙ ap (λ (x : Load). let w : Worker = record { next = next; pending = ps; phase = Carry x; tally = t } in w) (sym a)
 
 -- a worker with a batch before it and nothing pending looks for it
-pub looking : (f : Frame) (cur : Mine) (k : ℕ) (t : Tally) → k < f.batches → worker_of (mine cur) ≡ resume f k [] t →
+looking : (f : Frame) (cur : Mine) (k : ℕ) (t : Tally) → k < f.batches → worker_of (mine cur) ≡ resume f k [] t →
     worker_of (mine cur) ≡ record { next = k; pending = []; phase = Looking; tally = t }
 looking f cur k t h is = is ∙ ap (λ (b : Bool). let w : Worker = record
     { next = k; pending = []; phase = if b then Ended else Looking; tally = t } in
     w) (ne_eqb k f.batches (λ z. omega arith))
-
--- one with no batch left has ended
-pub done_so : (f : Frame) (cur : Mine) (k : ℕ) (t : Tally) → k ≡ f.batches → worker_of (mine cur) ≡ resume f k [] t →
-    worker_of (mine cur) ≡ record { next = k; pending = []; phase = Ended; tally = t }
-done_so f cur k t h is = is ∙ ap (λ (b : Bool). let w : Worker = record
-    { next = k; pending = []; phase = if b then Ended else Looking; tally = t } in w) (eq-eqb k f.batches h)
 
 -- one that has not begun goes on with batch 0
 pub begins : (f : Frame) (cur : Mine) → 0 < f.batches → worker_of (mine cur) ≡ fresh →
@@ -122,7 +116,7 @@ at_index l i v e h = e ∙ get_or_default l i v h
     get_or_default (y ∷ ys) (suc i) x h = get_or_default ys i x (omega arith)
 
 -- what is pending, by the position that was read
-pub next_one : (l : List ℕ) (i e v : ℕ) → i < e → e ≤ length l → v ≡ get_or l i v →
+next_one : (l : List ℕ) (i e v : ℕ) → i < e → e ≤ length l → v ≡ get_or l i v →
     take (e - i) (drop i l) ≡ v ∷ take (e - (i + 1)) (drop (i + 1) l)
 next_one l i e v h k is = one_less l i e h k ∙ ap (λ (x : ℕ). x ∷ take (e - (i + 1)) (drop (i + 1) l))
     (sym (at_index l i v is (omega arith)))

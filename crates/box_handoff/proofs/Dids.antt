@@ -32,7 +32,3 @@ pub moved_so : (g : Given) (old new : Mine) (ev : Event) (p : Phase) → Did g o
     worker_of (mine new) ≡ moved (frame g) (worker_of (mine old)) ev p
 unfolding after
 moved_so g old new ev p d phase = ap worker_of d.entry ∙ ap (moved (frame g) (worker_of (mine old)) ev) phase
-
--- the slots that the seat has then
-pub out_so : (old new : Mine) (ev : Event) (c : List (ℕ × SlotPacket)) → new ≡ (next_view old ev, c) → new.1 ≡ c
-out_so old new ev c eq = ap (λ (x : Mine). x.1) eq

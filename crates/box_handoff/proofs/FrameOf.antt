@@ -165,9 +165,9 @@ module _ (g : Given) (ok : IsGiven g) where
       (range_of_node g.keys task.lawful (node_of (setting_of g) task t lt).node))
 
   -- so is that of a joined packet
-  pub joined_in : (l : Load) (found packet : Packet) → l.split < (frame g).nodes →
+  pub joined_in : (l : Load) (packet : Packet) → l.split < (frame g).nodes →
       packet ≡ (frame g).node_packet l.split → IsRange g.keys packet.first packet.last
-  joined_in l found packet lt is = subst (λ (x : Packet). IsRange g.keys x.first x.last) (sym is) (node_in l.split lt)
+  joined_in l packet lt is = subst (λ (x : Packet). IsRange g.keys x.first x.last) (sym is) (node_in l.split lt)
 
 -- every node has a word
 pub count_is : (g : Given) → (numbers g).count ≡ (frame g).nodes

@@ -83,7 +83,7 @@ ended_cut g z old new x e all =
     )
 
 -- all seats of a handoff have ended
-pub all_ended : (h : Handoff) (seats : List HandSeat) → AreAll h seats → All (HasEnded (given_by h) (id_of h)) seats
+all_ended : (h : Handoff) (seats : List HandSeat) → AreAll h seats → All (HasEnded (given_by h) (id_of h)) seats
 all_ended h seats a k s lt = record { own = (a.own k s lt).seat; ended = a.ended k s lt }
 
 -- so has the last

@@ -1,8 +1,7 @@
 -- A seat's list of events grows at each step.
-use Rattle.std.proofs.Common.{◌≡◌, ℕ, Bool, List, [], ◌∷◌, ◌++◌, sym, refl, ap, ◌∙◌, subst, append_assoc}
+use Rattle.std.proofs.Common.{◌≡◌, Bool, List, [], ◌∷◌, ◌++◌, sym, refl, ap, ◌∙◌, subst, append_assoc}
 use Rattle.arrival_core.specs.Frames.{Frame}
 use Rattle.arrival_core.specs.States.{Worker}
-use Rattle.box_handoff.specs.declared.slots.SlotPacket.{SlotPacket}
 use Rattle.box_handoff.specs.declared.views.Event.{Event}
 use Rattle.box_handoff.specs.declared.views.Event.TheVariants.{Open, Arrive, Collect, Leave}
 use Rattle.box_handoff.specs.declared.views.Given.{Given}
@@ -30,7 +29,7 @@ due_more f w [] ev are is = (is, tt)
 due_more f w (e ∷ es) ev are is = (are.0, due_more f (after f w e) es ev are.1 is)
 
 -- a list of events grows by one
-pub grew_more : (f : Frame) (a b c : Entry) (ev : Event) → Grew f a b → c ≡ grown f b ev → IsDue b.phase ev → Grew f a c
+grew_more : (f : Frame) (a b c : Entry) (ev : Event) → Grew f a b → c ≡ grown f b ev → IsDue b.phase ev → Grew f a c
 grew_more f a b c ev h eq is = subst (λ (x : Entry). Grew f a x) (sym eq) (record {
   number = h.number;
   more = h.more ++ ev ∷ [];
@@ -73,15 +72,14 @@ grew_did g a old new ev h d = grew_more (frame g) a (mine old) (mine new) ev h d
 pub grew_same : (f : Frame) (a b c : Entry) → Grew f a b → c ≡ b → Grew f a c
 grew_same f a b c h e = subst (λ (x : Entry). Grew f a x) (sym e) h
 
--- the entry stays where the view does
-pub kept_mine : (old new : Mine) (c : List (ℕ × SlotPacket)) → new ≡ (old.0, c) → mine new ≡ mine old
-kept_mine old new c e = ap mine e
+-- the seat's events grow over an arrival
+pub grew_came : (g : Given) (s0 s1 s2 s3 : Mine) (was : Bool) → Did g s0 s1 Open → mine s2 ≡ mine s1 →
+    Did g s2 s3 (Arrive was) → Grew (frame g) (mine s0) (mine s3)
+grew_came g s0 s1 s2 s3 was d1 e2 d3 = grew_did g (mine s0) s2 s3 (Arrive was)
+    (grew_same (frame g) (mine s0) (mine s1) (mine s2) (grew_did g (mine s0) s0 s1 Open (grew_none _ _) d1) e2) d3
 
--- the seat's events grow over a passage
-pub grew_over : (g : Given) (a : Entry) (s0 s1 s2 s3 s4 s5 s6 : Mine) (was : Bool) → Grew (frame g) a (mine s0) →
-    Did g s0 s1 Open → mine s2 ≡ mine s1 → Did g s2 s3 (Arrive was) → Did g s3 s4 Collect → mine s5 ≡ mine s4 →
-    Did g s5 s6 Leave
-    → Grew (frame g) a (mine s6)
-grew_over g a s0 s1 s2 s3 s4 s5 s6 was h d1 e2 d3 d4 e5 d6 = grew_did g a s5 s6 Leave
-    (grew_same (frame g) a (mine s4) (mine s5) (grew_did g a s3 s4 Collect (grew_did g a s2 s3 (Arrive was)
-    (grew_same (frame g) a (mine s1) (mine s2) (grew_did g a s0 s1 Open h d1) e2) d3) d4) e5) d6
+-- and over what follows the second one
+pub grew_left : (g : Given) (s0 s1 s2 s3 : Mine) → Did g s0 s1 Collect → mine s2 ≡ mine s1 → Did g s2 s3 Leave →
+    Grew (frame g) (mine s0) (mine s3)
+grew_left g s0 s1 s2 s3 d1 e2 d3 = grew_did g (mine s0) s2 s3 Leave
+    (grew_same (frame g) (mine s0) (mine s1) (mine s2) (grew_did g (mine s0) s0 s1 Collect (grew_none _ _) d1) e2) d3

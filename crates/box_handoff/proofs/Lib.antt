@@ -21,6 +21,7 @@ pub mod Cutting
 pub mod GatherLaws
 pub mod ReadLaws
 pub mod Parting
+pub mod PassLaws
 pub mod DriveLaws
 pub mod CountLaws
 pub mod TallyLaws

@@ -1,8 +1,5 @@
 -- Seats while they are split off, and all of them at the end.
-use Rattle.std.proofs.Common.{◌≡◌, ℕ, zero, suc, ◌+◌, ◌≤◌, ◌<◌, List, [], ◌∷◌, length, get_or, inl, inr, ◌++◌, true, false, sym, refl, ap, ◌∙◌, subst, arith}
-use Rattle.std.proofs.lemmas.Bool.{cases_lt}
-use Rattle.std.proofs.Math.ListN.{get_or-append, length-append}
-use Rattle.std.proofs.Math.Seq.{get_or-append_seam}
+use Rattle.std.proofs.Common.{◌≡◌, ℕ, zero, suc, ◌+◌, ◌≤◌, ◌<◌, List, [], ◌∷◌, length, get_or, true, false, sym, refl, ap, ◌∙◌, subst, arith}
 use Rattle.atomic_table.specs.Seated.{TableId}
 use Rattle.atomic_table.specs.declared.shared.Seat.{Seat}
 use Rattle.arrival_core.specs.declared.packets.Tally.{Tally}
@@ -16,7 +13,6 @@ use Rattle.box_handoff.specs.declared.seats.HandSeat.{HandSeat}
 use Rattle.box_handoff.specs.declared.handoffs.Handoff.{Handoff}
 use Rattle.box_handoff.specs.Entries.{one, unbegun, unbegun_below, worker_of}
 use Rattle.box_handoff.specs.Plays.{Mine, mine, IsSmall}
-use Rattle.box_handoff.specs.Made.{ArePositions}
 use Rattle.box_handoff.specs.Seats.{given_by, id_of, IsHandoff, AreFresh}
 use Rattle.box_handoff.specs.Gathering.{IsUnbegun, AreUnbegun, IsParting}
 use Rattle.box_handoff.proofs.Cutting.{below_one}
@@ -83,17 +79,4 @@ all_fresh h made seats f count = record {
   numbers = λ k s lt. (unbegun_at (given_by h) (id_of h) 0 seats f k s lt).number
       ∙ (let q : 0 + k ≡ k = omega arith in q);
   unbegun = λ k s lt. (unbegun_at (given_by h) (id_of h) 0 seats f k s lt).unbegun;
-}
-
--- one position more
-pub one_position_more : (n : ℕ) (xs : List ℕ) → ArePositions n xs → ArePositions (n + 1) (xs ++ n ∷ [])
-one_position_more n xs h = record {
-  count_is = length-append xs (n ∷ []) ∙ ap (λ (z : ℕ). z + 1) h.count_is;
-  each = λ p lt. elim (cases_lt p (length xs)) [
-    | inl less ↦ get_or-append xs (n ∷ []) 0 p less ∙ h.each p less
-    | inr more ↦
-        let long : length (xs ++ n ∷ []) ≡ length xs + 1 = length-append xs (n ∷ []) in
-        let e : length xs ≡ p = omega (arith, long, lt, more) in
-        subst (λ (z : ℕ). get_or (xs ++ n ∷ []) z 0 ≡ z) e (get_or-append_seam xs n [] 0 ∙ sym h.count_is)
-  ];
 }

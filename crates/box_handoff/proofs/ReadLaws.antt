@@ -28,7 +28,7 @@ below_is x (leaf p) = refl
 below_is x (inner s) = refl
 
 -- so does that of a child
-pub child_is : (g : Given) (t : ℕ) (d : Side) → packet_at (frame g) t d ≡ child_packet g.keys g.boxes t d
+child_is : (g : Given) (t : ℕ) (d : Side) → packet_at (frame g) t d ≡ child_packet g.keys g.boxes t d
 unfolding frame packet_at frame_of
 child_is g t d = below_is (setting_of g) (child_of g.keys t d)
 

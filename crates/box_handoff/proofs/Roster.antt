@@ -37,7 +37,7 @@ module _ {A : Type 0} (f : A → ℕ) where
       (λ z. n (ap suc z)) e h in omega arith
 
 -- an entry has its own number
-pub times_self : (e : Entry) → ◌≡◌ {A = ℕ} (cond (eqb e.number e.number) 1 0) 1
+times_self : (e : Entry) → ◌≡◌ {A = ℕ} (cond (eqb e.number e.number) 1 0) 1
 times_self e = let f : Bool → ℕ = λ b. cond b 1 0 in ap f (eq-eqb e.number e.number refl)
 
 -- an entry that stands in a list is counted there

@@ -19,13 +19,13 @@ use Rattle.box_handoff.specs.Entries.{Numbers, Shown, IsNumbered}
 use Rattle.box_handoff.specs.Rule.{bit_on, side_no, slot, node_word, ShowsSide, ShowsNode, ShowsBatch, ShowsPlace, ShowsPlaces}
 
 -- a bit that is set is on
-pub bit_set : (n b : ℕ) → bit_on (bit_or n (2 ^ b)) b ≡ true
+bit_set : (n b : ℕ) → bit_on (bit_or n (2 ^ b)) b ≡ true
 unfolding bit_on
 bit_set n b = eq-eqb (bit_at (bit_or n (2 ^ b)) b) 1 (let e = bit_at_or n (2 ^ b) b in let p = bit_at-pow_same b in
     let l = bit_at-lt n b in omega arith)
 
 -- another bit is as before
-pub bit_kept : (n b c : ℕ) → c ≢ b → bit_on (bit_or n (2 ^ b)) c ≡ bit_on n c
+bit_kept : (n b c : ℕ) → c ≢ b → bit_on (bit_or n (2 ^ b)) c ≡ bit_on n c
 unfolding bit_on
 bit_kept n b c ne = ap (λ (x : ℕ). eqb x 1) (let e = bit_at_or n (2 ^ b) c in let p = bit_at-pow_other b c ne in
     let l : bit_at (bit_or n (2 ^ b)) c ≡ bit_at n c = omega arith in l)

@@ -1,12 +1,14 @@
 -- How a seat's list of events grows.
-use Rattle.std.specs.Prelude.{true, ℕ, ◌≡◌, ◌<◌, ◌∷◌, [], List, ◌++◌}
+use Rattle.std.specs.Prelude.{true, ℕ, ◌≡◌, ◌<◌, ◌∷◌, [], List, ◌++◌, ◌+◌, Option, Some, None}
 use Rattle.atomic_table.specs.declared.shared.Seat.{Seat}
 use Rattle.arrival_core.specs.declared.packets.Tally.{Tally}
+use Rattle.arrival_core.specs.declared.packets.Packet.{Packet}
 use Rattle.arrival_core.specs.declared.packets.Load.{Load}
+use Rattle.arrival_core.specs.declared.packets.Up.{Up}
 use Rattle.arrival_core.specs.declared.packets.Phase.{Phase}
 use Rattle.arrival_core.specs.declared.packets.Phase.TheVariants.{Looking, Carry, Opened, Second, Collecting}
 use Rattle.arrival_core.specs.Frames.{Frame, packet_at}
-use Rattle.arrival_core.specs.Events.{stepped, resume}
+use Rattle.arrival_core.specs.Events.{stepped, resume, join}
 use Rattle.arrival_core.specs.States.{Worker}
 use Rattle.box_handoff.specs.declared.slots.SlotPacket.{SlotPacket}
 use Rattle.box_handoff.specs.declared.views.Event.{Event}
@@ -70,6 +72,40 @@ pub record Did (g : Given) (old new : Mine) (ev : Event) : Type 0 where
 -- the entry's worker is in that phase, after one step more
 abbrev pub in_phase : Entry → Phase → Worker
 in_phase e p = record { next = e.next; pending = e.pending; phase = p; tally = stepped e.tally }
+
+-- who comes first at a node goes on with what it has yet to take off, after two steps
+abbrev pub came_first : Frame → Entry → Worker
+came_first f e = resume f e.next e.pending (record { fits = e.tally.fits; steps = e.tally.steps + 2 })
+
+-- a worker takes a packet to what stands above it, if anything does
+abbrev pub takes_up : Frame → Option Up → Packet → ℕ → List ℕ → Tally → Worker
+takes_up f None p next pending tally = resume f next pending tally
+takes_up f (Some u) p next pending tally = record {
+  next = next;
+  pending = pending;
+  phase = Carry (record { split = u.split; side = u.side; packet = p });
+  tally = tally;
+}
+
+-- who comes second finds the other side's packet there, after two steps
+abbrev pub finds_other : Load → Entry → Worker
+finds_other l e = record {
+  next = e.next;
+  pending = e.pending;
+  phase = Second l;
+  tally = record { fits = e.tally.fits; steps = e.tally.steps + 2 };
+}
+
+-- it leaves with the node's packet, after two steps more and a fit
+abbrev pub leaves_with : Frame → Load → Packet → Worker → Worker
+leaves_with f l found w =
+    takes_up f (f.above_node l.split) (join l.split l.side l.packet found) w.next w.pending
+    (record { fits = w.tally.fits + 1; steps = w.tally.steps + 2 })
+
+-- who comes second takes the node's packet up, after four steps and a fit
+abbrev pub came_second : Frame → ℕ → Packet → Entry → Worker
+came_second f s p e =
+    takes_up f (f.above_node s) p e.next e.pending (record { fits = e.tally.fits + 1; steps = e.tally.steps + 4 })
 
 -- the seat climbed, and carries the load now; what it has yet to take off is as it was
 pub record Carrying (g : Given) (old cur : Seat SlotPacket View) (load : Load) (tally : Tally) : Type 0 where

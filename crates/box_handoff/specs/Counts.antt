@@ -1,5 +1,5 @@
 -- The exact counts of a fitting run over all leaves.
-use Rattle.std.specs.Prelude.{ℕ, ◌≡◌, ◌+◌, ◌-◌, ◌*◌, ◌/◌}
+use Rattle.std.specs.Prelude.{ℕ, ◌≡◌, ◌<◌, ◌≤◌, ◌+◌, ◌-◌, ◌*◌, ◌/◌}
 use Rattle.arrival_core.specs.declared.packets.TheConstants.{BATCH}
 use Rattle.arrival_core.specs.declared.packets.Tally.{Tally}
 
@@ -8,3 +8,8 @@ use Rattle.arrival_core.specs.declared.packets.Tally.{Tally}
 pub record IsCounted (keys workers : ℕ) (t : Tally) : Type 0 where
   pub fits : t.fits ≡ keys - 1
   pub steps : t.steps ≡ workers * ((keys + 63) / BATCH) + 2 * (2 * keys - 2) + 2 * (keys - 1)
+
+-- those of a whole build: with fewer than two keys no worker is started
+pub record IsBuildCounted (keys workers : ℕ) (t : Tally) : Type 0 where
+  pub none : keys < 2 → (t.fits ≡ 0) × (t.steps ≡ 0)
+  pub all : 2 ≤ keys → IsCounted keys workers t

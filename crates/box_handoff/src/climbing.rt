@@ -1,4 +1,4 @@
-//! How one seat climbs.
+//! How one seat climbs: batch by batch, leaf by leaf, and from each leaf up as far as it comes second.
 ghost use Rattle.std.specs.Prelude.{true, ◌≡◌, ◌<◌, ◌+◌, ◌^◌, ◌≤◌, ℕ, [], ◌∷◌, ◌++◌, length, Some, None, suc};
 ghost use Rattle.box_handoff.specs.Made.{given_in, frame_in, numbers_in};
 ghost use Rattle.box_handoff.specs.Entries.{IsGiven, numbers, frame, given_of, one, worker_of};
@@ -11,14 +11,14 @@ ghost use Rattle.arrival_core.specs.Events.{resume, join};
 ghost use Rattle.arrival_core.specs.Start.{fresh};
 ghost use Rattle.arrival_core.specs.declared.packets.Phase.TheVariants.{Looking, Carry, Opened, Second, Collecting, Ended};
 
+use crate::passing::pass_node;
 use crate::plays::{HandTable, TableSeat};
-use crate::slots::unpack;
-use crate::steps::{across, arrive, collect, leave, look, open, place_of, put, slot_of, take};
+use crate::steps::take;
 use crate::views::About;
 use crate::ways::Ways;
-use crate::{Load, Packet, Side, Tally};
+use crate::{Load, Packet, Tally};
 use arrival_core::{BATCH, Up};
-use fixed_box::{Box3, union};
+use fixed_box::Box3;
 use morton_key::Key;
 use outside::Gate;
 
@@ -29,26 +29,6 @@ pub fn batches_of(about: &About<'_>) -> usize
     ensures small { result ≤ 2 ^ 20 }
 {
     (about.live.len() + BATCH - 1) / BATCH
-}
-
-/// The packet of a node, from that of one child and that of the other.
-fn joined(load: &Load, found: &Packet) -> Packet
-    ensures { result ≡ join load.now.split load.now.side load.now.packet found.now }
-{
-    match load.side {
-        Side::Left => Packet {
-            first: load.packet.first,
-            last: found.last,
-            split: load.split,
-            fit: union(&load.packet.fit, &found.fit),
-        },
-        Side::Right => Packet {
-            first: found.first,
-            last: load.packet.last,
-            split: load.split,
-            fit: union(&found.fit, &load.packet.fit),
-        },
-    }
 }
 
 /// Carries a load up until the other side of a node has not arrived, or to the root. The answer is the tally then.
@@ -78,21 +58,12 @@ pub fn carry_up<W: Ways>(
     let mut load = load;
     let mut tally = tally;
     loop {
-        let place = place_of(&load);
-        open(table, seat, base, place, &load);
-        put(table, seat, place, &load);
-        if !arrive(table, seat, base, place, &load) {
+        let Some(packet) = pass_node(table, seat, base, &load) else {
             tally.steps += 2;
             return tally;
-        }
-        collect(table, seat, base, place, &load);
-        let theirs = across(load.side);
-        let kept = look(table, seat, slot_of(place, theirs));
-        let found = unpack(load.split, theirs, &kept);
-        leave(table, seat, base, place, &load, &found);
+        };
         tally.steps += 4;
         tally.fits += 1;
-        let packet = joined(&load, &found);
         match ways.parent(packet.first, packet.last) {
             None => return tally,
             Some(Up { split, side }) => {

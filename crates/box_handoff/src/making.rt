@@ -43,7 +43,7 @@ fn positions(alloc: Global, count: usize) -> Result<Vec<u32>, AllocError>
     requires { count ≤ 2 ^ 20 }
     ensures { IfOk result (λ v. ArePositions count v.items) }
 {
-    let mut list = Vec::new(alloc);
+    let mut list = Vec::with_capacity(alloc, count)?;
     for i in 0..count {
         list.push(i as u32)?;
     }

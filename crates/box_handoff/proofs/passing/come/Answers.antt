@@ -1,0 +1,37 @@
+use Rattle.std.proofs.Common.{ap, ◌∙◌}
+use Rattle.box_handoff.specs.Made.{frame_in}
+use Rattle.box_handoff.specs.Plays.{mine}
+use Rattle.box_handoff.proofs.FrameOf.{place_is}
+use Rattle.box_handoff.proofs.GrowLaws.{grew_came}
+use Rattle.box_handoff.proofs.PassLaws.{was_small, turned_back, found_other}
+use Rattle.box_handoff.proofs.passing.come.Goals as goal
+
+pub open-requires-clause-place : goal.open-requires-clause-place
+open-requires-clause-place c = place_is _ _ _ c.requires.load c.place_of-place.ensures.is
+
+pub arrive-requires-clause-place : goal.arrive-requires-clause-place
+arrive-requires-clause-place c = place_is _ _ _ c.requires.load c.place_of-place.ensures.is
+
+pub returns-clause-climbed : goal.returns-clause-climbed
+returns-clause-climbed c = record {
+  table = c.arrive.ensures.table.0 ∙ c.put.ensures.table.0 ∙ c.open.ensures.table.0;
+  id = c.arrive.ensures.table.1 ∙ c.put.ensures.table.1 ∙ c.open.ensures.table.1;
+  view = c.arrive.ensures.did.view;
+  home = c.arrive.ensures.out;
+  grew = grew_came _ c.args.seat.now.me c.open.new.seat.me c.put.new.seat.me c.arrive.new.seat.me c.arrive.result
+      c.open.ensures.did (ap mine c.put.ensures.out) c.arrive.ensures.did;
+  small = λ h. c.arrive.ensures.did.small;
+}
+
+pub returns-clause-small : goal.returns-clause-small
+returns-clause-small c = was_small c.args.load.now c.args.seat.now.me c.open.new.seat.me c.open.ensures.worker
+    c.open.ensures.did.small
+
+pub returns-clause-first : goal.returns-clause-first
+returns-clause-first c came = turned_back (frame_in c.args.table.now.key) c.args.load.now c.args.seat.now.me
+    c.open.new.seat.me c.put.new.seat.me c.arrive.new.seat.me c.open.ensures.worker (ap mine c.put.ensures.out)
+    (c.arrive.ensures.first came)
+
+pub returns-clause-second : goal.returns-clause-second
+returns-clause-second c came = found_other c.args.load.now c.args.seat.now.me c.open.new.seat.me c.put.new.seat.me
+    c.arrive.new.seat.me c.open.ensures.worker (ap mine c.put.ensures.out) (c.arrive.ensures.second came)

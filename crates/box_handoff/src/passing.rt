@@ -1,0 +1,134 @@
+//! One passage of a node. Who comes first leaves its packet there; who comes second finds it, and takes the node's
+//! packet away.
+ghost use Rattle.std.specs.Prelude.{◌≡◌, ◌<◌, ◌+◌, ◌^◌, ◌∷◌, [], true, false, IfNone, IfSome};
+ghost use Rattle.arrival_core.specs.Events.{join};
+ghost use Rattle.arrival_core.specs.Frames.{other, packet_at};
+ghost use Rattle.arrival_core.specs.declared.packets.Phase.TheVariants.{Carry, Second};
+ghost use Rattle.box_handoff.specs.Rule.{slot};
+ghost use Rattle.box_handoff.specs.Slots.{packed};
+ghost use Rattle.box_handoff.specs.Made.{given_in, frame_in, numbers_in};
+ghost use Rattle.box_handoff.specs.Entries.{IsGiven, one, worker_of};
+ghost use Rattle.box_handoff.specs.Plays.{mine, IsSmall};
+ghost use Rattle.box_handoff.specs.Climbs.{Climbed, IsCarried, came_first, finds_other, leaves_with, came_second};
+
+use crate::plays::{HandTable, TableSeat};
+use crate::slots::unpack;
+use crate::steps::{across, arrive, collect, leave, look, open, place_of, put, slot_of};
+use crate::{Load, Packet, Side};
+use fixed_box::union;
+
+/// The packet of a node, from that of one child and that of the other.
+fn joined(load: &Load, found: &Packet) -> Packet
+    ensures { result ≡ join load.now.split load.now.side load.now.packet found.now }
+{
+    match load.side {
+        Side::Left => Packet {
+            first: load.packet.first,
+            last: found.last,
+            split: load.split,
+            fit: union(&load.packet.fit, &found.fit),
+        },
+        Side::Right => Packet {
+            first: found.first,
+            last: load.packet.last,
+            split: load.split,
+            fit: union(&found.fit, &load.packet.fit),
+        },
+    }
+}
+
+/// Leaves a load's packet at its node. The answer is whether the other side had arrived before.
+fn come(table: &HandTable<'_>, seat: &mut TableSeat, base: usize, load: &Load) -> bool
+    requires table { seat.old.table_id ≡ table.now.table_id }
+    requires words { let f = frame_in table.now.key in (base ≡ f.batches)
+        × (table.now.table_id.words ≡ f.batches + (numbers_in table.now.key).count) }
+    requires room { table.now.table_id.words < 2 ^ 60 }
+    requires one { seat.old.me.0 ≡ one (given_in table.now.key) (mine seat.old.me) }
+    requires home { seat.old.me.1 ≡ [] }
+    requires phase { (mine seat.old.me).phase ≡ Carry load.now }
+    requires load { IsCarried (frame_in table.now.key) load.now }
+    requires given { IsGiven (given_in table.now.key) }
+    ensures climbed { Climbed (given_in table.now.key) seat.old seat.new }
+    ensures small { IsSmall (mine seat.old.me).tally }
+    ensures first { result ≡ false →
+        worker_of (mine seat.new.me) ≡ came_first (frame_in table.now.key) (mine seat.old.me) }
+    ensures second { result ≡ true → worker_of (mine seat.new.me) ≡ finds_other load.now (mine seat.old.me) }
+{
+    let place = place_of(load);
+    open(table, seat, base, place, load);
+    put(table, seat, place, load);
+    arrive(table, seat, base, place, load)
+}
+
+/// What the other side left in its place, which is out with the seat.
+fn found_there(table: &HandTable<'_>, seat: &mut TableSeat, place: usize, load: &Load) -> Packet
+    requires table { seat.old.table_id ≡ table.now.table_id }
+    requires room { place < 2 ^ 60 }
+    requires out { seat.old.me.1 ≡ (
+      slot place (other load.now.side),
+      packed (other load.now.side) (packet_at (frame_in table.now.key) load.now.split (other load.now.side)),
+    ) ∷ [] }
+    requires load { IsCarried (frame_in table.now.key) load.now }
+    requires given { IsGiven (given_in table.now.key) }
+    ensures table { (seat.new.table_id ≡ seat.old.table_id) × (seat.new.id ≡ seat.old.id) }
+    ensures same { seat.new.me ≡ seat.old.me }
+    ensures found { result ≡ packet_at (frame_in table.now.key) load.now.split (other load.now.side) }
+{
+    let theirs = across(load.side);
+    let kept = look(table, seat, slot_of(place, theirs));
+    unpack(load.split, theirs, &kept)
+}
+
+/// Takes what the other side left at a load's node, and gives the node back. The answer is the other side's packet.
+fn take_other(table: &HandTable<'_>, seat: &mut TableSeat, base: usize, load: &Load) -> Packet
+    requires table { seat.old.table_id ≡ table.now.table_id }
+    requires words { let f = frame_in table.now.key in (base ≡ f.batches)
+        × (table.now.table_id.words ≡ f.batches + (numbers_in table.now.key).count) }
+    requires room { table.now.table_id.words < 2 ^ 60 }
+    requires one { seat.old.me.0 ≡ one (given_in table.now.key) (mine seat.old.me) }
+    requires home { seat.old.me.1 ≡ [] }
+    requires phase { (mine seat.old.me).phase ≡ Second load.now }
+    requires load { IsCarried (frame_in table.now.key) load.now }
+    requires given { IsGiven (given_in table.now.key) }
+    ensures climbed { Climbed (given_in table.now.key) seat.old seat.new }
+    ensures found { result ≡ packet_at (frame_in table.now.key) load.now.split (other load.now.side) }
+    ensures worker { worker_of (mine seat.new.me) ≡ leaves_with (frame_in table.now.key) load.now result
+        (worker_of (mine seat.old.me)) }
+{
+    let place = place_of(load);
+    collect(table, seat, base, place, load);
+    let found = found_there(table, seat, place, load);
+    leave(table, seat, base, place, load, &found);
+    found
+}
+
+/// Hands a load to its node. The answer is the node's packet, where the other side had arrived before.
+pub fn pass_node(
+    table: &HandTable<'_>,
+    seat: &mut TableSeat,
+    base: usize,
+    load: &Load,
+) -> Option<Packet>
+    requires table { seat.old.table_id ≡ table.now.table_id }
+    requires words { let f = frame_in table.now.key in (base ≡ f.batches)
+        × (table.now.table_id.words ≡ f.batches + (numbers_in table.now.key).count) }
+    requires room { table.now.table_id.words < 2 ^ 60 }
+    requires one { seat.old.me.0 ≡ one (given_in table.now.key) (mine seat.old.me) }
+    requires home { seat.old.me.1 ≡ [] }
+    requires phase { (mine seat.old.me).phase ≡ Carry load.now }
+    requires load { IsCarried (frame_in table.now.key) load.now }
+    requires given { IsGiven (given_in table.now.key) }
+    ensures climbed { Climbed (given_in table.now.key) seat.old seat.new }
+    ensures small { IsSmall (mine seat.old.me).tally }
+    ensures packet { IfSome result (λ p. p ≡ (frame_in table.now.key).node_packet load.now.split) }
+    ensures first { IfNone result
+        (worker_of (mine seat.new.me) ≡ came_first (frame_in table.now.key) (mine seat.old.me)) }
+    ensures second { IfSome result (λ p.
+        worker_of (mine seat.new.me) ≡ came_second (frame_in table.now.key) load.now.split p (mine seat.old.me)) }
+{
+    if !come(table, seat, base, load) {
+        return None;
+    }
+    let found = take_other(table, seat, base, load);
+    Some(joined(load, &found))
+}
