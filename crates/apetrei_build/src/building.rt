@@ -4,9 +4,10 @@ ghost use Rattle.std.specs.Prelude.{◌≡◌, ◌<◌, ◌≤◌, length, IfOk}
 ghost use Rattle.morton_key.specs.Keys.{IsLawful};
 ghost use Rattle.radix_tree.specs.Table.{IsTable};
 ghost use Rattle.radix_tree.specs.Fit.{IsFitted, table_of};
-ghost use Rattle.box_handoff.specs.Counts.{IsCounted};
+ghost use Rattle.box_handoff.specs.Counts.{IsBuildCounted};
 
 use crate::Deltas;
+use arrival_core::MOST_WORKERS;
 use box_handoff::{Built, Tally, assemble, fit};
 use fixed_box::Box3;
 use morton_key::Key;
@@ -18,8 +19,10 @@ use std::thread::Threads;
 /// The tree of the keys, fitted to the boxes by so many workers, each with a seat in a thread of its own where there is
 /// one: `boxes[t - 1]` is the box of triangle `t`.
 ///
-/// It is the tree of the plain build for every count of workers. The tally is the workers' added up; fewer than two keys
-/// make no node, and nobody works. After `Memory` the keys are dropped.
+/// It is the tree of the plain build for every count of workers, from 1 to 64. The tally is the workers' added up;
+/// fewer than two keys make no node, and nobody works. After `Memory` the keys are dropped.
+///
+/// The parent of a range is told by its nearer neighbour (Apetrei, 2014), and who comes second at a node fits it.
 pub fn build<R: Threads + Sync, G: Gate>(
     rt: &R,
     alloc: Global,
@@ -31,13 +34,12 @@ pub fn build<R: Threads + Sync, G: Gate>(
     requires lawful { IsLawful keys.items }
     requires count { length boxes.now ≡ length keys.items }
     requires some { 0 < workers }
-    requires few { workers ≤ 64 }
+    requires few { workers ≤ MOST_WORKERS }
     ensures keys { IfOk result (λ b. b.tree.keys ≡ keys.items) }
     ensures table { IfOk result (λ b. IsTable b.tree) }
     ensures fitted { IfOk result (λ b. IsFitted b.tree boxes.now) }
     ensures value { IfOk result (λ b. b.tree.nodes ≡ table_of keys.items boxes.now) }
-    ensures counts { 1 < length keys.items → IfOk result (λ b. IsCounted (length keys.items) workers b.tally) }
-    ensures none { length keys.items ≤ 1 → IfOk result (λ b. b.tally ≡ record { fits = 0; steps = 0 }) }
+    ensures counts { IfOk result (λ b. IsBuildCounted (length keys.items) workers b.tally) }
 {
     if keys.len() < 2 {
         return Ok(Built {
