@@ -264,7 +264,9 @@ fn works<R: Threads + Sync + Abort + AllocGlobal>(
 fn a_thousand_moves_are_seen_by_the_next_answers(rt: HostRuntime) -> Result<(), Fail> {
     let alloc = rt.alloc();
     let mut scan = Scan::scattered(alloc, 2026)?;
-    let mesh = read_mesh(alloc, &scan.text(alloc)?, 1).map_err(|_| "the mesh is refused")?;
+    let text = scan.text(alloc)?;
+    assert!(rt; text.len() <= 65_536);
+    let mesh = read_mesh(alloc, &text, 1).map_err(|_| "the mesh is refused")?;
     let mut world = World::new(&rt, alloc, mesh, Build::Karras, 4, &OpenGate).map_err(
         |_| "no memory for the world",
     )?;
