@@ -111,7 +111,8 @@ ROWS = [
      b"node 1\nseg 301 1 -1 301 1 1\nmove 1 300 0 0\nmove 2 304 0 0\nmove 3 300 4 0\nseg 301 1 -1 301 1 1\n"
      b"refit\nnode 1\nrebuild\nnode 1\nnode 0\n",
      b"node 1 0 1 0 0 0 0 104 4 0\nmiss\nmoved 1\nmoved 2\nmoved 3\nhit 1 1/2\n"
-     b"refitted\nnode 1 0 1 0 100 0 0 304 4 0\nrebuilt\nnode 1 0 1 0 100 0 0 204 4 0\nnode 0 0 2 1 100 0 0 304 4 0\n", 0),
+     b"refitted\nnode 1 0 1 0 100 0 0 304 4 0\nrebuilt\nnode 1 0 1 0 100 0 0 204 4 0\n"
+     b"node 0 0 2 1 100 0 0 304 4 0\n", 0),
     ("work stays through moves and builds", TWICE, 1,
      b"box 4 4 0 9 9 0\nmove 1 -9 0 0\nwork\nrefit\nwork\nrebuild\nwork\nmove 1 9 9 9\nbox 9 9 9 9 9 9\nwork\n",
      b"overlaps 2: 1 2\nmoved 1\nwork 3\nrefitted\nwork 3\nrebuilt\nwork 3\nmoved 1\noverlaps 2: 1 2\nwork 3\n", 0),
@@ -325,7 +326,8 @@ def script_over(mesh, unit, chance, queries):
         out.append(line("box", chance.choice([[*corner, *corner], [*corner, *near], [*near, *corner], [*p, *q]]), unit))
         out.append("work\n")
         if mesh.points and chance.random() < 0.3:
-            out.append(line(f"move {chance.randint(1, len(mesh.points))}", bring_in(chance.choice([p, near, corner])), unit))
+            vertex, to = chance.randint(1, len(mesh.points)), bring_in(chance.choice([p, near, corner]))
+            out.append(line(f"move {vertex}", to, unit))
             out += [f"node {chance.randrange(max(triangles, 1))}\n", chance.choice(["", "refit\n", "rebuild\n"])]
         middle = mesh.faces and tuple(sum(mesh.points[c][k] for c in chance.choice(mesh.faces)) // 3 for k in range(3))
         through = bring_in(2 * a - b for a, b in zip(middle or corner, p))
@@ -435,8 +437,9 @@ ODD_LINES = ["", "  ", "# box", "#", "frob", "Box 0 0 0 1 1 1", "box", "box 0 0 
              "seg 0 0 -131073 0 y 0", "seg 0 0 1234567890123456789012345 131072 0 0", "node", "node 0 0", "node -1", "node +1",
              "node 1.0", "node 00", "node 007", "node 99999999999", "node 1000000000000000000000000",
              "node 1234567890123456789012345", "node 0000000000000000000000000000001", "groups", "groups 1", "work", "work 0",
-             "move", "move 1 0 0", "move 0 0 0 0", "move 01 0 0 0", "move +1 0 0 0", "move 1 0 0 2048", "move 1 0 x 0", "move 1.0 0 0 0",
-             "move 99999999999 0 0 0", "move 1234567890123456789012345 x 0 0", "refit", "refit 1", "rebuild", "rebuild 0",
+             "move", "move 1 0 0", "move 0 0 0 0", "move 01 0 0 0", "move +1 0 0 0", "move 1 0 0 2048", "move 1 0 x 0",
+             "move 1.0 0 0 0", "move 99999999999 0 0 0", "move 1234567890123456789012345 x 0 0", "refit", "refit 1",
+             "rebuild", "rebuild 0",
              "\tbox\v0 0 0\f1 1 1\r", "work\r", "box 0 0 0 0 0 0 # no comment here", "box +1 -.5e1 5. 0 0 0", "groups#", "w\u00f6rk",
              "\\", "work \\", "cells", "cells 0 0", "cells -1", "cells 1.0", "cells 007", "cells 19", "cells 99999999999",
              "cells 1234567890123456789012345", "stat 0", "stat", "stats", "Stat"]

@@ -4,9 +4,9 @@
     python3 bench/table.py [--program PATH] [--yardstick PATH] [--runs N] [--wall] [--workers W]
 
 The meshes are height fields of 8,192, 131,072 and 524,288 triangles, the scripts 20,000 small boxes and 4,000 segments;
-all are made here, the same at each run. The yardstick is ../shared/bench/yardstick.rs, the same kind of index in plain
+all are made here, the same at each run. The yardstick is yardstick.rs beside this file, the same kind of index in plain
 Rust with no proof, at as many threads; rustc builds it. Both programs run in turn, N times (three times as often over the
-smallest mesh), and their replies are compared. Where the yardstick is missing the table has the program's figures alone.
+smallest mesh), and their replies are compared.
 
 Times are processor time, user and system, since others may load the machine; with `--wall`, and with more than one worker,
 they are by the clock. They are differences of whole runs, of the program and of the yardstick alike, so that starting and
@@ -36,7 +36,7 @@ import time
 
 HERE = os.path.dirname(os.path.abspath(__file__))
 TOP = os.path.dirname(HERE)
-YARDSTICK = os.path.join(TOP, "..", "shared", "bench", "yardstick.rs")
+YARDSTICK = os.path.join(HERE, "yardstick.rs")
 TIME = "/usr/bin/time"
 SIDES = (64, 256, 512)
 BOXES, SEGMENTS = 20_000, 4_000
@@ -122,13 +122,13 @@ class Runner:
 class Files:
     """The meshes and scripts of one side, in a folder."""
 
-    def __init__(self, folder, side, has_segments):
+    def __init__(self, folder, side):
         text = mesh_text(side)
         boxes, segments = scripts(side)
         self.bytes, self.triangles = len(text), 2 * side * side
         self.mesh, self.refused = self.put(folder, "mesh.obj", text), self.put(folder, "refused.obj", text + b"f 1 2\n")
         self.none, self.boxes = self.put(folder, "none", b""), self.put(folder, "boxes", boxes)
-        self.segments = self.put(folder, "segments", segments) if has_segments else None
+        self.segments = self.put(folder, "segments", segments)
 
     @staticmethod
     def put(folder, name, content):
@@ -150,20 +150,11 @@ def figures(runner, files, is_yardstick):
         refused = runner.run(files.refused, files.none)[0]
         read, build = refused - begun, opened - refused
     boxed, replies, _ = runner.run(files.mesh, files.boxes)
-    row = {"read": read, "build": build, "boxes": boxed - opened}
-    if files.segments:
-        shot, more, _ = runner.run(files.mesh, files.segments)
-        row["segments"], replies = shot - opened, replies + more
+    shot, more, _ = runner.run(files.mesh, files.segments)
+    replies += more
+    row = {"read": read, "build": build, "boxes": boxed - opened, "segments": shot - opened}
     row = {name: max(value, 1e-6) for name, value in row.items()}
     return row | {"memory": runner.peak(files.mesh, files.boxes)}, replies
-
-
-def knows(runner, folder, options, line):
-    """Whether the program takes the options, and knows the word of the line."""
-    mesh = Files.put(folder, "probe.obj", b"v 0 0 0\n")
-    script = Files.put(folder, "probe", line)
-    done = subprocess.run([*runner.command, *options, mesh], stdin=open(script, "rb"), capture_output=True, check=False)
-    return done.returncode != 1 and b"unknown word" not in done.stdout
 
 
 def machine():
@@ -175,9 +166,9 @@ def machine():
 # ------------------------------------------------------------------------------------------------ the table
 
 def cells(ours, ratios, size):
-    """The cells of one row: each figure and, where there is a yardstick, its ratio."""
+    """The cells of one row: each figure and its ratio."""
     middle = lambda name: statistics.median(row[name] for row in ours)
-    ratio = lambda name: f"{statistics.median(ratios[name]):.2f}" if ratios else "-"
+    ratio = lambda name: f"{statistics.median(ratios[name]):.2f}"
     yield f"{size.triangles:,}"
     yield f"{size.bytes / 1e6 / middle('read'):.0f}"
     yield ratio("read")
@@ -185,51 +176,42 @@ def cells(ours, ratios, size):
     yield ratio("build")
     yield f"{BOXES / middle('boxes'):,.0f}"
     yield ratio("boxes")
-    yield f"{SEGMENTS / middle('segments'):,.0f}" if size.segments else "-"
-    yield ratio("segments") if size.segments else "-"
+    yield f"{SEGMENTS / middle('segments'):,.0f}"
+    yield ratio("segments")
     yield f"{middle('memory'):.0f}"
     yield ratio("memory")
 
 
-def measure(side, world, yardstick, folder, runs, has_segments):
-    files = Files(folder, side, has_segments)
+def measure(side, world, yardstick, folder, runs):
+    files = Files(folder, side)
     ours, ratios, differs = [], {}, False
     for _ in range(3 * runs if side == SIDES[0] else runs):
         mine, replies = figures(world, files, False)
         ours.append(mine)
-        if yardstick:
-            theirs, expected = figures(yardstick, files, True)
-            differs |= replies != expected
-            for name, value in mine.items():
-                ratios.setdefault(name, []).append(value / theirs[name])
+        theirs, expected = figures(yardstick, files, True)
+        differs |= replies != expected
+        for name, value in mine.items():
+            ratios.setdefault(name, []).append(value / theirs[name])
     return "| " + " | ".join(cells(ours, ratios, files)) + " |", differs
 
 
 def main():
     parser = argparse.ArgumentParser(description="Prints one table of the program beside the yardstick.")
     parser.add_argument("--program", default=os.path.join(TOP, "crates", "world_main", "out", "world_main"))
-    parser.add_argument("--yardstick", default=YARDSTICK, help="its source, default ../shared/bench/yardstick.rs")
+    parser.add_argument("--yardstick", default=YARDSTICK, help="its source, default bench/yardstick.rs")
     parser.add_argument("--runs", type=int, default=7)
     parser.add_argument("--wall", action="store_true", help="time by the clock on the wall")
-    parser.add_argument("--workers", type=int, default=1, help="threads of both; the program's where it knows the option")
+    parser.add_argument("--workers", type=int, default=1, help="threads of both")
     chosen = parser.parse_args()
     if not os.path.exists(chosen.program):
         sys.exit(f"there is no program {chosen.program}: build it by `rt run` in crates/world_main")
     folder = tempfile.mkdtemp()
     try:
         wall = chosen.wall or chosen.workers > 1
-        world, yardstick = Runner([chosen.program], {}, folder, wall), None
-        has_segments = knows(world, folder, [], b"seg 0 0 0 0 0 0\n")
-        if knows(world, folder, ["--workers", "1"], b""):
-            world.command += ["--workers", str(chosen.workers)]
-        if not os.path.exists(chosen.yardstick):
-            print(f"There is no yardstick {os.path.normpath(chosen.yardstick)}: the program's figures alone, without ratios.\n")
-        else:
-            built = os.path.join(folder, "yardstick")
-            subprocess.run(["rustc", "--edition", "2021", "-A", "warnings", "-C", "opt-level=3", "-o", built,
-                            chosen.yardstick], check=True)
-            yardstick = Runner([built], {"BASE": "1", "YARD_THREADS": str(chosen.workers), "YARD_TIMING": "1"},
-                               folder, wall)
+        world = Runner([chosen.program, "--workers", str(chosen.workers)], {}, folder, wall)
+        built = os.path.join(folder, "yardstick")
+        subprocess.run(["rustc", "--edition", "2021", "-C", "opt-level=3", "-o", built, chosen.yardstick], check=True)
+        yardstick = Runner([built], {"YARD_THREADS": str(chosen.workers), "YARD_TIMING": "1"}, folder, wall)
         print(f"{machine()}; {datetime.date.today()}; medians of {chosen.runs} runs in turn "
               f"({3 * chosen.runs} at {2 * SIDES[0] ** 2:,} triangles).\n")
         print("| triangles | read, MB/s | ratio | build, ms | ratio | boxes a second | ratio | segments a second | ratio "
@@ -237,15 +219,12 @@ def main():
         print("|" + "---:|" * 11)
         differs = False
         for side in SIDES:
-            row, other = measure(side, world, yardstick, folder, chosen.runs, has_segments)
+            row, other = measure(side, world, yardstick, folder, chosen.runs)
             differs |= other
             print(row, flush=True)
-        if not has_segments:
-            print("\nThe program does not know `seg`.")
         if differs:
             sys.exit("the replies of the two programs differ")
-        if yardstick:
-            print("\nThe replies of both programs were equal.")
+        print("\nThe replies of both programs were equal.")
     finally:
         shutil.rmtree(folder)
 

@@ -70,7 +70,8 @@ known_fields unit keyword.Seg words =
     known_onward (point_of unit bounds.World (drop 3 words)) _ (known_point unit bounds.World (drop 3 words)) (λ q. tt))
 known_fields unit keyword.Move words =
     known_onward (number_of (first_of words)) _ (known_number (whole_of (first_of words))) (λ n.
-    known_onward (point_of unit bounds.World (drop 1 words)) _ (known_point unit bounds.World (drop 1 words)) (λ to. tt))
+    let rest = drop 1 words in
+    known_onward (point_of unit bounds.World rest) _ (known_point unit bounds.World rest) (λ to. tt))
 known_fields unit keyword.Refit words = tt
 known_fields unit keyword.Rebuild words = tt
 known_fields unit keyword.Node words =

@@ -21,8 +21,8 @@ use text_words::Words;
 /// - a line without words, or whose first word begins with `#`, asks nothing;
 /// - the first word is one of the table's, else `UnknownWord`;
 /// - as many words follow it as stand there, else `WrongCount`;
-/// - each of them from left to right: a coordinate is a decimal (see `decimals::grid`) and a number is digits alone, else
-///   `NotANumber`; either has at most 24 digits from the first that is not `0` on, a decimal's exponent aside, else
+/// - each of them from left to right: a coordinate is a decimal (see `decimals::grid`) and a number is digits alone,
+///   else `NotANumber`; either has at most 24 digits from the first that is not `0` on, a decimal's exponent aside, else
 ///   `NumberTooLong`; a coordinate behind `box` is from -2147483647 to 2147483647 grid steps and one behind `seg` or
 ///   `move` is in the world, else `OutOfRange`.
 ///

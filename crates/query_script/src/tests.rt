@@ -54,7 +54,7 @@ fn box_between(lo: Point, hi: Point) -> Ask {
 
 #[test]
 fn the_first_thing_wrong_from_left_to_right_is_the_fault(rt: HostRuntime) {
-    let rows: [(&str, u32, LineFault); 30] = [
+    let rows: [(&str, u32, LineFault); 36] = [
         ("frob 1", 1, LineFault::UnknownWord),
         ("frob a", 1, LineFault::UnknownWord),
         ("boxes 0 0 0 0 0 0", 1, LineFault::UnknownWord),
@@ -95,6 +95,16 @@ fn the_first_thing_wrong_from_left_to_right_is_the_fault(rt: HostRuntime) {
             LineFault::NumberTooLong,
         ),
         ("box a 9999999 0 0 0 0", 65536, LineFault::NotANumber),
+        ("move 1 2 3", 1, LineFault::WrongCount),
+        ("refit 1", 1, LineFault::WrongCount),
+        ("rebuild 1", 1, LineFault::WrongCount),
+        ("move 1.0 x 0 0", 1, LineFault::NotANumber),
+        ("move 1 131072 0 x", 1, LineFault::OutOfRange),
+        (
+            "move 1234567890123456789012345 131072 0 0",
+            1,
+            LineFault::NumberTooLong,
+        ),
         ("node -1", 1, LineFault::NotANumber),
         (
             "node 1234567890123456789012345",
@@ -116,7 +126,7 @@ fn blank_lines_and_comments_ask_nothing(rt: HostRuntime) {
 
 #[test]
 fn words_and_numbers_become_asks(rt: HostRuntime) {
-    let rows: [(&str, u32, Ask); 11] = [
+    let rows: [(&str, u32, Ask); 14] = [
         ("work", 1, Ask::Work),
         ("\twork\r", 1, Ask::Work),
         ("groups", 1, Ask::Groups),
@@ -130,6 +140,16 @@ fn words_and_numbers_become_asks(rt: HostRuntime) {
                 q: point(131071, 0, 0),
             },
         ),
+        (
+            "move 007 -2048 0.5 1e0",
+            64,
+            Ask::Move {
+                vertex: 7,
+                to: point(-131072, 32, 64),
+            },
+        ),
+        ("refit", 1, Ask::Refit),
+        ("rebuild", 1, Ask::Rebuild),
         ("node 007", 1, Ask::NodeOf { number: 7 }),
         (
             "node 999999999999999999999999",
@@ -252,6 +272,9 @@ fn each_reply_is_one_line_of_words(rt: HostRuntime) -> Result<(), Fail> {
     };
     is_written(&rt, alloc, &told, "hit 7 1/2\n");
     is_written(&rt, alloc, &Reply::Miss, "miss\n");
+    is_written(&rt, alloc, &Reply::Moved(7), "moved 7\n");
+    is_written(&rt, alloc, &Reply::Refitted, "refitted\n");
+    is_written(&rt, alloc, &Reply::Rebuilt, "rebuilt\n");
 
     let node = Node {
         first: 0,

@@ -31,8 +31,10 @@ fn fit_under(tree: &mut Tree, boxes: &[Box3], child: Child) -> Box3
     requires child { IsChild tree.old child }
     ensures table { IsTable tree.new }
     ensures keys { tree.new.keys ≡ tree.old.keys }
-    ensures fit { (a b : ℕ) → HasRange tree.old.keys child a b → IsLeastBox (boxes_in boxes.now tree.old.keys a b) result }
-    ensures kept { (k : ℕ) → HasRow tree.old.keys boxes.now tree.old.nodes k → HasRow tree.old.keys boxes.now tree.new.nodes k }
+    ensures fit { (a b : ℕ) → HasRange tree.old.keys child a b →
+        IsLeastBox (boxes_in boxes.now tree.old.keys a b) result }
+    ensures kept { (k : ℕ) → HasRow tree.old.keys boxes.now tree.old.nodes k →
+        HasRow tree.old.keys boxes.now tree.new.nodes k }
     ensures made { (k : ℕ) → IsUnder tree.old.keys child k → HasRow tree.old.keys boxes.now tree.new.nodes k }
 {
     match child {
@@ -52,8 +54,8 @@ fn fit_under(tree: &mut Tree, boxes: &[Box3], child: Child) -> Box3
 /// Fits the tree to the boxes: `boxes[t - 1]` is the box of triangle `t`. Keys, ranges and splits are as before.
 ///
 /// Each node is looked at once, after all below it, so the time is in proportion to the nodes; the recursion is at most
-/// one call deeper than the tree is high. All leaves count as moved. It finds want of memory nowhere today; after it the
-/// tree would be as before.
+/// one call deeper than the tree is high. All leaves count as moved. After `Memory` the tree is as before; today it takes
+/// none.
 pub fn refit(_alloc: Global, tree: &mut Tree, boxes: &[Box3]) -> Result<(), Memory>
     requires { length boxes.now ≡ length tree.old.keys }
     ensures shape { KeepsShape tree.old tree.new }

@@ -52,7 +52,10 @@ fn a_triangle_that_moved_far_keeps_its_place_in_the_tree(rt: HostRuntime) -> Res
     let third = around(at(200, 0, 0), at(204, 4, 0));
     let moved = around(at(300, 0, 0), at(304, 4, 0));
     let mut tree = built(&rt, rt.alloc(), &[first, second, third])?;
-    assert_eq!(rt; tree.nodes().get(1).copied(), Some(node(0, 1, 0, around(at(0, 0, 0), at(104, 4, 0)))));
+    assert_eq!(rt;
+        tree.nodes().get(1).copied(),
+        Some(node(0, 1, 0, around(at(0, 0, 0), at(104, 4, 0))))
+    );
     refitted(&rt, rt.alloc(), &mut tree, &[moved, second, third])?;
     let expected = [
         node(0, 2, 1, around(at(100, 0, 0), at(304, 4, 0))),
@@ -95,9 +98,17 @@ fn coordinate(seed: u64) -> i32 {
 fn scattered(alloc: Global, count: usize, mut seed: u64) -> Result<Vec<Box3>, AllocError> {
     let mut boxes = Vec::with_capacity(alloc, count)?;
     for _ in 0..count {
-        let lo = at(coordinate(seed), coordinate(jump(seed)), coordinate(seed >> 8));
+        let lo = at(
+            coordinate(seed),
+            coordinate(jump(seed)),
+            coordinate(seed >> 8),
+        );
         seed = jump(jump(seed));
-        let hi = at(coordinate(seed), coordinate(jump(seed)), coordinate(seed >> 8));
+        let hi = at(
+            coordinate(seed),
+            coordinate(jump(seed)),
+            coordinate(seed >> 8),
+        );
         seed = jump(jump(seed));
         boxes.push(around(lo, hi))?;
     }
@@ -113,14 +124,24 @@ fn scanned(tree: &Tree, boxes: &[Box3], node: &Node) -> Option<(Point, Point)> {
     let mut hi = at(i32::MIN, i32::MIN, i32::MIN);
     for key in keys {
         let around = boxes.get((key.tri as usize).checked_sub(1)?)?;
-        lo = at(lo.x.min(around.lo.x), lo.y.min(around.lo.y), lo.z.min(around.lo.z));
-        hi = at(hi.x.max(around.hi.x), hi.y.max(around.hi.y), hi.z.max(around.hi.z));
+        lo = at(
+            lo.x.min(around.lo.x),
+            lo.y.min(around.lo.y),
+            lo.z.min(around.lo.z),
+        );
+        hi = at(
+            hi.x.max(around.hi.x),
+            hi.y.max(around.hi.y),
+            hi.z.max(around.hi.z),
+        );
     }
     Some((lo, hi))
 }
 
 #[test]
-fn two_hundred_boxes_that_all_moved_are_fitted_as_a_scan_finds(rt: HostRuntime) -> Result<(), Fail> {
+fn two_hundred_boxes_that_all_moved_are_fitted_as_a_scan_finds(
+    rt: HostRuntime,
+) -> Result<(), Fail> {
     let before = scattered(rt.alloc(), 200, 2026)?;
     let after = scattered(rt.alloc(), 200, 731)?;
     let fresh = built(&rt, rt.alloc(), &before)?;
@@ -129,8 +150,14 @@ fn two_hundred_boxes_that_all_moved_are_fitted_as_a_scan_finds(rt: HostRuntime) 
     assert!(rt; tree.keys() == fresh.keys());
     assert_eq!(rt; tree.nodes().len(), 199);
     for (node, old) in tree.nodes().iter().zip(fresh.nodes()) {
-        assert_eq!(rt; (node.first, node.last, node.split), (old.first, old.last, old.split));
-        assert_eq!(rt; Some((node.fit.lo, node.fit.hi)), scanned(&tree, &after, node));
+        assert_eq!(rt;
+            (node.first, node.last, node.split),
+            (old.first, old.last, old.split)
+        );
+        assert_eq!(rt;
+            Some((node.fit.lo, node.fit.hi)),
+            scanned(&tree, &after, node)
+        );
     }
     Ok(())
 }

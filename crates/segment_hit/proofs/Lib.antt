@@ -15,4 +15,9 @@ pub mod Chains
 pub mod Axes
 pub mod Entries
 pub mod MeetingsInBoxes
+pub mod Passed
+pub mod LineWays
+pub mod LineAxes
+pub mod Passages
+pub mod Floors
 mod Examples

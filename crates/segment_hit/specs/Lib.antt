@@ -2,6 +2,8 @@ pub mod Vectors
 pub mod Meeting
 pub mod FractionOrder
 pub mod Entering
+pub mod Lines
 pub mod HitOf
 pub mod Determinants
 pub mod Stretches
+pub mod Places

@@ -6,8 +6,12 @@
 #![tactic(auto)]
 
 mod arithmetic;
+mod crossings;
 mod entering;
 mod fraction;
+mod limits;
+mod line;
+mod lines;
 mod lowest;
 mod meeting;
 mod order;
@@ -17,6 +21,9 @@ mod vectors;
 
 pub use entering::{enters, entry};
 pub use fraction::Frac;
+pub use limits::reach;
+pub use line::{Axis, Line, PRODUCT, Passage, Place, SCALE, WHOLE};
+pub use lines::{line_of, passage};
 pub use meeting::hit;
 pub use order::cmp;
 pub use stretch::Entry;

@@ -28,6 +28,9 @@ abbrev pub state_left : {A : Type 0} → (A → List ℕ → A) → A → Bool �
 state_left after state unfinished bytes = state_after after state (cut_lines unfinished bytes)
 
 -- each call of a function, unless it fails, answers a line by that text and leaves that state
-abbrev pub AnswersBy : {A E : Type 0} → (A → ℕ → List ℕ → List ℕ) → (A → List ℕ → A) → (MutBor A → ℕ → Bor (List ℕ) → Result (Vec ℕ Global) E → MutBor A → Type 0) → Type 0
-AnswersBy text after gives = (old : _) (number : ℕ) (line : _) (result : _) (new : _) → gives old number line result new
-    → IfOk result (λ answer. answer.items ≡ text old.now number line.now) × OnOk result (new.now ≡ after old.now line.now)
+abbrev pub AnswersBy : {A E : Type 0} → (A → ℕ → List ℕ → List ℕ) → (A → List ℕ → A)
+    → (MutBor A → ℕ → Bor (List ℕ) → Result (Vec ℕ Global) E → MutBor A → Type 0) → Type 0
+AnswersBy text after gives =
+    (old : _) (number : ℕ) (line : _) (result : _) (new : _) → gives old number line result new
+    → IfOk result (λ answer. answer.items ≡ text old.now number line.now)
+    × OnOk result (new.now ≡ after old.now line.now)

@@ -1,7 +1,8 @@
 //! Who answers the lines of a script. What the answer to a line is and what state it leaves are ghost members, so the
 //! loop that moves bytes is proved once, for every script language.
 //!
-//! The function that answers a line is no method: it is handed to the loop as a value, so what it does may start threads.
+//! The function that answers a line is no method: it is handed to the loop as a value, so what it does may start
+//! threads.
 
 ghost use Rattle.std.specs.Prelude.{ℕ, List};
 

@@ -21,8 +21,8 @@ pub struct Answered<A: Answerer + Drop> {
 }
 
 /// Answers the lines of a script of at most `limit` bytes, an unfinished last line among them. Of a longer script it
-/// answers the lines that ended within the first `limit` bytes, and takes one byte more. `answer` answers one line by the
-/// state, the line's number, counted from 1, and the line without its line feed.
+/// answers the lines that ended within the first `limit` bytes, and takes one byte more. `answer` answers one line by
+/// the state, the line's number, counted from 1, and the line without its line feed.
 pub fn answer_lines<
     A: Answerer + Drop,
     F: Fn(&mut A, u32, &[u8]) -> Result<Vec<u8>, Memory>,

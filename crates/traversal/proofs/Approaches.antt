@@ -75,36 +75,34 @@ module _ (t : Contents) (table : IsTable t) (tris : List Tri) (fitted : IsFitted
       (subst (Contains x.fit) (box_of_triangle-boxes tris (tri_at t.keys i) (tri_inside i within))
       (box_contains_triangle t (map tri_box tris) fitted k i lt low high within))
 
-module _ (tris : List Tri) (all : All TriInWorld tris) where
-  -- each of their boxes is in the world
-  boxes_in_world : All BoxInWorld (map tri_box tris)
-  boxes_in_world = All-map BoxInWorld tri_box tris
-      (All-weaker TriInWorld (λ x. BoxInWorld (tri_box x))
-      (λ x w. box_of_tri_in_world x (tri_box x) w (tri_box-is_least x)) tris all)
+-- each box of triangles of the world is in the world
+boxes_in_world : (tris : List Tri) → All TriInWorld tris → All BoxInWorld (map tri_box tris)
+boxes_in_world tris all =
+    All-map BoxInWorld tri_box tris
+    (All-weaker TriInWorld (λ x. BoxInWorld (tri_box x))
+    (λ x w. box_of_tri_in_world x (tri_box x) w (tri_box-is_least x)) tris all)
 
-  -- and so is what is read where a triangle has none
-  no_box_in_world : BoxInWorld no_box
-  unfolding no_box extent.point_box
-  no_box_in_world =
-      let c : IsCoordinate (pos 0) = record { low = omega (arith, ints); high = omega (arith, ints) } in
-      record { lo = record { x = c; y = c; z = c }; hi = record { x = c; y = c; z = c } }
+-- and so is what is read where a triangle has none
+no_box_in_world : BoxInWorld no_box
+unfolding no_box extent.point_box
+no_box_in_world =
+    let c : IsCoordinate (pos 0) = record { low = omega (arith, ints); high = omega (arith, ints) } in
+    record { lo = record { x = c; y = c; z = c }; hi = record { x = c; y = c; z = c } }
 
+module _ (boxes : List Box3) (all : All BoxInWorld boxes) where
   -- so each box that is read is
-  read_in_world : (n : ℕ) → BoxInWorld (box_of_triangle (map tri_box tris) n)
+  pub read_in_world : (n : ℕ) → BoxInWorld (box_of_triangle boxes n)
   unfolding box_of_triangle
-  read_in_world n =
-      let boxes = map tri_box tris in
-      elim (cases_lt (n - 1) (length boxes)) [
-        | inl lt ↦ All-get_or BoxInWorld boxes (n - 1) no_box lt boxes_in_world
-        | inr past ↦ subst BoxInWorld (sym (get_or_past boxes (n - 1) no_box past)) no_box_in_world
-      ]
+  read_in_world n = elim (cases_lt (n - 1) (length boxes)) [
+    | inl lt ↦ All-get_or BoxInWorld boxes (n - 1) no_box lt all
+    | inr past ↦ subst BoxInWorld (sym (get_or_past boxes (n - 1) no_box past)) no_box_in_world
+  ]
 
   -- and the box of each node
-  pub node_in_world : (t : Contents) → IsFitted t (map tri_box tris) → (k : ℕ) → k < length t.nodes →
+  pub fitted_in_world : (t : Contents) → IsFitted t boxes → (k : ℕ) → k < length t.nodes →
       BoxInWorld (node_at t.nodes k).fit
   unfolding boxes_in
-  node_in_world t fitted k lt =
-      let boxes = map tri_box tris in
+  fitted_in_world t fitted k lt =
       let x = node_at t.nodes k in
       let keys = slice_range t.keys x.first (x.last + 1) in
       let none : Key = record { code = 0; tri = 0 } in
@@ -113,3 +111,8 @@ module _ (tris : List Tri) (all : All TriInWorld tris) where
       (All-from_get_or (λ (key : Key). BoxInWorld (box_of_triangle boxes key.tri)) keys none
       (λ i within. let key : Key = get_or keys i none in read_in_world key.tri)))
       (fitted.each k lt)
+
+-- the box of each node round triangles of the world is in it
+pub node_in_world : (tris : List Tri) → All TriInWorld tris → (t : Contents) → IsFitted t (map tri_box tris) → (k : ℕ) →
+    k < length t.nodes → BoxInWorld (node_at t.nodes k).fit
+node_in_world tris all = fitted_in_world (map tri_box tris) (boxes_in_world tris all)

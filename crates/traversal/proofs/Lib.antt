@@ -6,7 +6,7 @@ pub mod Parts
 pub mod Subtrees
 pub mod Leaves
 pub mod Walking
-pub mod Work
+pub mod Reached
 pub mod Roots
 pub mod Answer
 pub mod HitOrder

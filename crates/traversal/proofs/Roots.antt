@@ -13,7 +13,7 @@ use Rattle.radix_tree.proofs.NodeLaws.{root_node, one_number}
 use Rattle.traversal.specs.Overlaps.{work_of}
 use Rattle.traversal.specs.Walks.{met_in, met_below}
 use Rattle.traversal.proofs.Parts.{below-leaf}
-use Rattle.traversal.proofs.Work.{work_of-one, work_of-many, below-root}
+use Rattle.traversal.proofs.Reached.{work_of-one, work_of-many, below-root}
 
 -- of no key nothing is met
 pub met_in-empty : (keys : List Key) (boxes : List Box3) (q : Box3) (before : List ℕ) → length keys ≡ 0 →

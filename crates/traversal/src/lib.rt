@@ -5,13 +5,16 @@
 
 mod approach;
 mod beginning;
+mod counted;
 mod found;
 mod nearest_hit;
 mod overlapping;
 mod triangles;
 
+pub use beginning::root;
+pub use counted::work;
 pub use found::{Found, Numbers};
-pub use nearest_hit::{nearest, nearest_among};
+pub use nearest_hit::{better, nearest, nearest_among};
 pub use overlapping::overlaps;
 pub use triangles::Triangles;
 

@@ -36,7 +36,7 @@ fn comes_first(a: &(u32, Frac), b: &(u32, Frac)) -> bool
 }
 
 /// The better of the best hit so far and another.
-fn better(best: Option<(u32, Frac)>, found: (u32, Frac)) -> (u32, Frac)
+pub fn better(best: Option<(u32, Frac)>, found: (u32, Frac)) -> (u32, Frac)
     ensures taken { (best ≡ Some result) ⊎ (result ≡ found) }
     ensures found { IsNoFarther result found }
     ensures best { (h : ℕ × Frac) → best ≡ Some h → IsNoFarther result h }

@@ -39,7 +39,7 @@ fn test_leaf(
 }
 
 /// Whether the box of the node of that number meets another.
-fn node_meets(t: &Tree, q: &Box3, number: u32) -> bool
+pub(crate) fn node_meets(t: &Tree, q: &Box3, number: u32) -> bool
     requires { number < length t.now.nodes }
     ensures { result ≡ boxes_meet (node_at t.now.nodes number).fit q.now }
 {

@@ -70,7 +70,11 @@ thrice_elsewhere latest face x v hasnt =
 
 -- the latest of no triangle, of one more that has the vertex, and of one more that has it not
 pub latest_none : (faces : List Face) (v : ℕ) → IsLatest faces 0 v 0
-latest_none faces v = record { all = λ t lt has. omega arith; within = omega arith; uses = λ some. absurd (omega arith) }
+latest_none faces v = record {
+  all = λ t lt has. omega arith;
+  within = omega arith;
+  uses = λ some. absurd (omega arith);
+}
 
 latest_here : (faces : List Face) (n v : ℕ) → HasVertex (face_at faces n) v → IsLatest faces (n + 1) v (n + 1)
 latest_here faces n v has =

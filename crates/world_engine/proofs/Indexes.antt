@@ -1,5 +1,5 @@
--- An index when its boxes or its tree are made anew.
-use Rattle.std.proofs.Common.{◌≡◌, ◌∙◌, ap, sym, subst, List, length}
+-- An index when its boxes, its tree or its list are made anew, and the work that it keeps.
+use Rattle.std.proofs.Common.{◌≡◌, ◌∙◌, ℕ, ap, sym, subst, refl, List, length}
 use Rattle.std.specs.Prelude.{IfSome, Option, Vec}
 use Rattle.std.specs.declared.alloc.Global.{Global}
 use Rattle.fixed_box.specs.declared.shapes.Point.{Point}
@@ -8,15 +8,29 @@ use Rattle.obj_text.specs.declared.face.Face.{Face}
 use Rattle.morton_key.specs.Order.{order_of}
 use Rattle.radix_tree.specs.Table.{Contents}
 use Rattle.radix_tree.specs.Fit.{IsFitted, table_of}
+use Rattle.walk_list.specs.Lists as lists
+use Rattle.walk_list.specs.Lists.{IsOver}
+use Rattle.walk_list.specs.Moving.{IsOverAsMany}
 use Rattle.world_engine.specs.declared.index.Index.{Index}
 use Rattle.world_engine.specs.declared.fans.Fans.{Fans}
+use Rattle.world_engine.specs.declared.last_work.LastWork.{LastWork}
+use Rattle.world_engine.specs.declared.last_work.LastWork.TheVariants.{Counted, Uncounted}
 use Rattle.world_engine.specs.Worlds.{boxes_at}
 use Rattle.world_engine.specs.Marks.{Marked}
 use Rattle.world_engine.specs.Fans.{AreFans}
-use Rattle.world_engine.specs.Kept.{IsIndex, IsFittedTo}
+use Rattle.world_engine.specs.Kept.{IsIndex, IsFittedTo, IsCountable}
 use Rattle.world_engine.proofs.MendedBoxes.{length-boxes_at, right_in_list}
 
--- one that is fitted, whatever is marked
+-- over boxes that the tree is fitted to, any work can be counted
+countable : (work : LastWork) (tree : Contents) (boxes : List Box3) → IsFitted tree boxes → IsCountable work tree boxes
+countable (Counted count) tree boxes fits = tt
+countable (Uncounted around) tree boxes fits = fits
+
+-- a list over boxes is over as many as these
+as_many : (list : lists.Contents) (boxes : List Box3) → IsOver list boxes → IsOverAsMany list boxes
+as_many list boxes over = record { before = boxes; over = over; count = refl }
+
+-- an index that is fitted, whatever is marked
 pub fitted_index : (index : Index) (now : List Point) (faces : List Face) →
     index.tree.keys ≡ order_of (boxes_at index.built.value.items faces) → length index.tree.keys ≡ length faces →
     index.marks.vertices ≡ length now → IsFittedTo index now faces →
@@ -28,15 +42,17 @@ fitted_index index now faces keys triangles vertices fitted fans = record {
   vertices = vertices;
   right = λ t lt still. right_in_list now faces index.boxes.items t lt fitted.each;
   fitted = λ still. fitted;
+  list = as_many index.list index.boxes.items fitted.list;
   fans = fans;
+  work = countable index.work index.tree index.boxes.items fitted.fits;
 }
 
 module _ (index : Index) (now : List Point) (faces : List Face) (old : IsIndex index now faces) where
-  -- with the boxes of the points now
-  pub boxes_made : (boxes : Vec Box3 Global) (fans : Option Fans) → boxes.items ≡ boxes_at now faces →
+  -- with the boxes of the points now, and its work counted
+  pub boxes_made : (boxes : Vec Box3 Global) (fans : Option Fans) (count : ℕ) → boxes.items ≡ boxes_at now faces →
       IfSome fans (λ fans. AreFans fans faces (length now)) →
-      IsIndex (record index { boxes = boxes; fans = fans }) now faces
-  boxes_made boxes fans made chained = record {
+      IsIndex (record index { boxes = boxes; fans = fans; work = Counted count }) now faces
+  boxes_made boxes fans count made chained = record {
     boxes = ap length made ∙ length-boxes_at now faces;
     triangles = old.triangles;
     keys = old.keys;
@@ -46,20 +62,29 @@ module _ (index : Index) (now : List Point) (faces : List Face) (old : IsIndex i
       each = made;
       nodes = (old.fitted still).nodes;
       fits = subst (IsFitted index.tree) ((old.fitted still).each ∙ sym made) (old.fitted still).fits;
+      list = subst (IsOver index.list) ((old.fitted still).each ∙ sym made) (old.fitted still).list;
+    };
+    list = record {
+      before = old.list.before;
+      over = old.list.over;
+      count = ap length made ∙ (length-boxes_at now faces ∙ (sym old.boxes ∙ old.list.count));
     };
     fans = chained;
+    work = tt;
   }
 
-  -- and with its tree fitted to them
-  pub tree_fitted : (boxes : List Box3) (tree : Contents) (marks : Marked) → index.boxes.items ≡ boxes_at now faces →
-      boxes ≡ index.boxes.items → tree.keys ≡ index.tree.keys → tree.nodes ≡ table_of index.tree.keys boxes →
-      IsFitted tree boxes → marks.vertices ≡ index.marks.vertices →
-      IsIndex (record index { tree = tree; marks = marks }) now faces
-  tree_fitted boxes tree marks made same keys nodes fits vertices =
-      fitted_index (record index { tree = tree; marks = marks }) now faces (keys ∙ old.keys)
+  -- and with tree and list fitted to them
+  pub tree_fitted : (boxes : List Box3) (tree : Contents) (list : lists.Contents) (marks : Marked) →
+      index.boxes.items ≡ boxes_at now faces → boxes ≡ index.boxes.items → tree.keys ≡ index.tree.keys →
+      tree.nodes ≡ table_of index.tree.keys boxes → IsFitted tree boxes → IsOver list index.boxes.items →
+      marks.vertices ≡ index.marks.vertices →
+      IsIndex (record index { tree = tree; list = list; marks = marks }) now faces
+  tree_fitted boxes tree list marks made same keys nodes fits over vertices =
+      fitted_index (record index { tree = tree; list = list; marks = marks }) now faces (keys ∙ old.keys)
       (ap length keys ∙ old.triangles) (vertices ∙ old.vertices) (record {
         each = made;
         nodes = nodes ∙ (ap (λ ks. table_of ks boxes) old.keys
             ∙ ap (table_of (order_of (boxes_at index.built.value.items faces))) (same ∙ made));
         fits = subst (IsFitted tree) same fits;
+        list = over;
       }) old.fans

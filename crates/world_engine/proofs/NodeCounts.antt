@@ -37,5 +37,6 @@ pub free_at_rest : (settled : Bool) (number count : ℕ) → number < count →
     (settled || not (nat_lt number count)) ≡ true → settled ≡ true
 free_at_rest settled number count there free = elim (or_cases settled (not (nat_lt number count)) free) [
   | inl rest ↦ rest
-  | inr past ↦ absurd (both_ways (nat_lt number count) (not-true (nat_lt number count) past) (lt-ltb number count there))
+  | inr past ↦ absurd (both_ways (nat_lt number count) (not-true (nat_lt number count) past)
+      (lt-ltb number count there))
 ]

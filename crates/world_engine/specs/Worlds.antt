@@ -24,7 +24,7 @@ use Rattle.query_script.specs.declared.groups.GroupCount.{GroupCount}
 use Rattle.query_script.specs.declared.replies.Reply.{Reply}
 use Rattle.query_script.specs.declared.replies.Reply.TheVariants.{Nothing, Overlaps, Hit, Miss, Moved, Refitted, Rebuilt, NodeIs, CellsAre, GroupsAre, StatIs, WorkIs, Refused}
 
--- a state of the world: the mesh that opened it, the points now, those of the last build, and the last box query's work;
+-- a state of the world: the mesh that opened it, the points now, those of the last build, the last box query's work,
 -- and whether no vertex was moved since it was opened, refitted or built anew
 pub record WorldState : Type 0 where
   pub mesh : MeshLists
@@ -99,7 +99,9 @@ move_reply count vertex = if is_vertex count vertex then Moved vertex else Refus
 -- the world with the vertex of that number there, if there is one
 abbrev pub moved : WorldState → ℕ → Point → WorldState
 moved world vertex to =
-    if is_vertex (length world.now) vertex then record world { now = slice_set world.now (vertex - 1) to; settled = false } else world
+    if is_vertex (length world.now) vertex
+    then record world { now = slice_set world.now (vertex - 1) to; settled = false }
+    else world
 
 -- the node of that number, or that there is none
 abbrev pub node_reply : List Node → ℕ → Reply

@@ -1,5 +1,5 @@
-//! The triangles that use a vertex, as a chain: the last triangle at each vertex, and from each triangle, at each of its
-//! corners, the last one before it. It is made in one pass, and has one number for each corner and one for each vertex.
+//! The triangles that use a vertex, as a chain: the last triangle at each vertex, and from each triangle, at each of
+//! its corners, the last one before it. It is made in one pass, and has a number for each corner and each vertex.
 
 ghost use Rattle.std.specs.Prelude.{◌≡◌, ℕ, ◌<◌, ◌≤◌, length, IfOk, All};
 ghost use Rattle.obj_text.specs.Meshes.{IsFaceOf};

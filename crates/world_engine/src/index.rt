@@ -1,31 +1,40 @@
-//! What a world keeps so that queries need not look at each triangle: the triangles' boxes, and the tree over them.
-//! While points are moved boxes and tree stay as they are; the next call that looks at them fits them first.
+//! What a world keeps so that queries need not look at each triangle: the triangles' boxes, the tree over them, and the
+//! tree's triangles as a list for walks. While points are moved these stay as they are; the next call that looks at them
+//! fits them first.
 
-ghost use Rattle.std.specs.Prelude.{◌≡◌, ◌≤◌, ◌<◌, ℕ, [], length, IsOk, IfOk, OnOk, OnErr, All};
+ghost use Rattle.std.specs.Prelude.{◌≡◌, ◌≤◌, [], length, IsOk, IfOk, OnOk, OnErr, All};
 ghost use Rattle.fixed_box.specs.World.{InWorld};
 ghost use Rattle.obj_text.specs.Meshes.{IsFaceOf};
 ghost use Rattle.world_engine.specs.Worlds.{boxes_at};
-ghost use Rattle.world_engine.specs.Kept.{IsIndex};
+ghost use Rattle.world_engine.specs.Kept.{IsIndex, IsCountable, last_work};
+ghost use Rattle.world_engine.specs.declared.last_work.LastWork.{LastWork};
 
 use crate::corners::boxes_of;
 use crate::fans::Fans;
+use crate::last_work::LastWork;
 use crate::marks::Marks;
 use crate::mending::fit_moved;
 use fixed_box::{Box3, Point};
 use karras_build::{order_joined, tree_joined};
-use obj_text::{Face, MOST_FACES, MOST_POINTS};
+use obj_text::{Face, MOST_FACES};
 use outside::Memory;
 use radix_tree::Tree;
 use refit::refit;
 use std::alloc::Global;
 use std::snapshot::Snapshot;
 use std::thread::Threads;
+use traversal::work;
+use walk_list::{WalkList, flatten};
 
 /// The boxes of triangles, and the tree over them, built over some points and fitted to those or to later ones.
 #[derive(Drop)]
 pub struct Index {
     pub boxes: Vec<Box3>,
     pub tree: Tree,
+    /// The tree laid flat, which boxes and segments are answered by.
+    pub list: WalkList,
+    /// The work of the last box, over boxes and tree as they stand.
+    pub work: LastWork,
     /// The points of the build. Only proofs read them.
     pub built: Snapshot<Vec<Point>>,
     /// The vertices that were moved since boxes and tree were fitted.
@@ -48,21 +57,36 @@ impl Index {
         ensures index { IfOk result (λ index. IsIndex index points.now.items faces.now) }
         ensures still { IfOk result (λ index. index.marks.moved ≡ []) }
         ensures built { IfOk result (λ index. index.built.value.items ≡ points.now.items) }
+        ensures work { IfOk result (λ index. last_work index ≡ 0) }
     {
         let boxes = boxes_of(rt, alloc, points, faces)?;
         let keys = order_joined(rt, alloc, &boxes)?;
         let tree = tree_joined(rt, alloc, keys, &boxes)?;
+        let list = flatten(alloc, &tree, &boxes)?;
         let marks = Marks::none(alloc, points.len())?;
         Ok(Index {
             boxes,
             tree,
+            list,
+            work: LastWork::Counted(0),
             built: Snapshot::of(points),
             marks,
             fans: None,
         })
     }
 
-    /// Fits the boxes of triangles that use moved vertices.
+    /// The work of the last box, counted now if it was not yet. It takes no memory.
+    pub fn last_work(&self) -> u64
+        requires { IsCountable self.now.work self.now.tree self.now.boxes.items }
+        ensures { result ≡ last_work self.now }
+    {
+        match self.work {
+            LastWork::Counted(count) => count,
+            LastWork::Uncounted(around) => work(&self.tree, &self.boxes, &around),
+        }
+    }
+
+    /// Counts the work of the last box while its boxes stand, and fits the boxes of triangles that use moved vertices.
     fn fit_boxes(&mut self, alloc: Global, points: &[Point], faces: &[Face]) -> Result<(), Memory>
         requires named { All (IsFaceOf (length points.now)) faces.now }
         requires few { length faces.now ≤ MOST_FACES }
@@ -71,7 +95,9 @@ impl Index {
         ensures boxes { OnOk result (self.new.boxes.items ≡ boxes_at points.now faces.now) }
         ensures marks { self.new.marks ≡ self.old.marks }
         ensures built { self.new.built.value.items ≡ self.old.built.value.items }
+        ensures work { self.new.work ≡ LastWork.Counted (last_work self.old) }
     {
+        self.work = LastWork::Counted(self.last_work());
         if self.marks.is_empty() {
             return Ok(());
         }
@@ -84,8 +110,9 @@ impl Index {
         Ok(())
     }
 
-    /// Fits boxes and tree to the points now, where vertices were moved. After `Memory` the next call does.
+    /// Fits boxes, tree and list to the points now, where vertices were moved. After `Memory` the next call does.
     pub fn mend(&mut self, alloc: Global, points: &[Point], faces: &[Face]) -> Result<(), Memory>
+        requires world { All InWorld points.now }
         requires named { All (IsFaceOf (length points.now)) faces.now }
         requires few { length faces.now ≤ MOST_FACES }
         requires index { IsIndex self.old points.now faces.now }
@@ -93,17 +120,21 @@ impl Index {
         ensures mended { OnOk result (self.new.marks.moved ≡ []) }
         ensures free { self.old.marks.moved ≡ [] → IsOk result }
         ensures built { self.new.built.value.items ≡ self.old.built.value.items }
+        ensures work { last_work self.new ≡ last_work self.old }
     {
         if self.marks.is_empty() {
             return Ok(());
         }
         self.fit_boxes(alloc, points, faces)?;
+        let moved = self.list.moved(alloc, &self.boxes)?;
         refit(alloc, &mut self.tree, &self.boxes)?;
+        self.list.refit(&self.boxes, &moved);
         self.marks.clear();
         Ok(())
     }
 
-    /// Builds the tree anew over the points now, by as many threads as it is worth. After `Memory` the old tree stands.
+    /// Builds tree and list anew over the points now, by as many threads as it is worth. After `Memory` the old ones
+    /// stand.
     pub fn rebuild<R: Threads + Sync>(
         &mut self,
         rt: &R,
@@ -120,10 +151,13 @@ impl Index {
         ensures rest { self.old.marks.moved ≡ [] → self.new.marks.moved ≡ [] }
         ensures built { OnOk result (self.new.built.value.items ≡ points.now.items) }
         ensures memory { OnErr result (self.new.built.value.items ≡ self.old.built.value.items) }
+        ensures work { last_work self.new ≡ last_work self.old }
     {
         self.fit_boxes(alloc, points, faces)?;
         let keys = order_joined(rt, alloc, &self.boxes)?;
-        self.tree = tree_joined(rt, alloc, keys, &self.boxes)?;
+        let tree = tree_joined(rt, alloc, keys, &self.boxes)?;
+        self.list = flatten(alloc, &tree, &self.boxes)?;
+        self.tree = tree;
         self.marks.clear();
         self.built = Snapshot::of(points);
         Ok(())

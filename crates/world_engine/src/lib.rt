@@ -9,6 +9,7 @@ mod desk;
 mod fans;
 mod grouping;
 mod index;
+mod last_work;
 mod limits;
 mod marks;
 mod mending;

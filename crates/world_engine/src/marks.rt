@@ -1,5 +1,5 @@
-//! Which vertices were moved since boxes were fitted to them: a flag for each vertex, and a list of those flagged, which
-//! has room for all from the start, so that a mark takes no memory.
+//! Which vertices were moved since boxes were fitted to them: a flag for each vertex, and a list of those flagged, with
+//! room for all from the start, so that a mark takes no memory.
 
 ghost use Rattle.std.specs.Prelude.{◌≡◌, ◌<◌, ℕ, true, false, All, length, slice_index_or};
 ghost use Rattle.std.specs.List.{Contains};

@@ -17,8 +17,10 @@ fn fit_fan(points: &[Point], faces: &[Face], fans: &Fans, vertex: u32, boxes: &m
     requires fans { AreFans fans.now faces.now (length points.now) }
     requires within { vertex < length points.now }
     requires room { length boxes.old ≡ length faces.now }
-    ensures made { (t : ℕ) → t < length faces.now → HasVertex (face_at faces.now t) vertex → IsRight points.now faces.now boxes.new t }
-    ensures kept { (t : ℕ) → t < length faces.now → IsRight points.now faces.now boxes.old t → IsRight points.now faces.now boxes.new t }
+    ensures made { (t : ℕ) → t < length faces.now → HasVertex (face_at faces.now t) vertex →
+        IsRight points.now faces.now boxes.new t }
+    ensures kept { (t : ℕ) → t < length faces.now → IsRight points.now faces.now boxes.old t →
+        IsRight points.now faces.now boxes.new t }
 {
     let mut next = fans.latest[vertex as usize];
     while next > 0 {
@@ -35,7 +37,8 @@ pub fn fit_moved(points: &[Point], faces: &[Face], fans: &Fans, moved: &[u32], b
     requires fans { AreFans fans.now faces.now (length points.now) }
     requires within { All (λ v. v < length points.now) moved.now }
     requires room { length boxes.old ≡ length faces.now }
-    requires still { (t : ℕ) → t < length faces.now → IsStill moved.now (face_at faces.now t) → IsRight points.now faces.now boxes.old t }
+    requires still { (t : ℕ) → t < length faces.now → IsStill moved.now (face_at faces.now t) →
+        IsRight points.now faces.now boxes.old t }
     ensures { boxes.new ≡ boxes_at points.now faces.now }
 {
     for vertex in moved {

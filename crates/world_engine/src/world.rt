@@ -1,6 +1,6 @@
 //! The world that a mesh opens. It keeps the points as they were moved, and the triangles' boxes with the tree over
-//! them, which the next query fits where points were moved. Queries walk the tree, and a box query leaves behind how many
-//! boxes it tested.
+//! them, which the next query fits where points were moved. Queries walk the tree laid flat as a list, and a box query
+//! leaves behind its work, which is counted over the tree when it is asked.
 
 ghost use Rattle.std.specs.Prelude.{◌≡◌, IfOk};
 ghost use Rattle.world_engine.specs.Worlds.{node_reply, is_vertex};
@@ -8,6 +8,7 @@ ghost use Rattle.world_engine.specs.Worlds.{node_reply, is_vertex};
 use crate::corners::Corners;
 use crate::grouping::group_list;
 use crate::index::Index;
+use crate::last_work::LastWork;
 use command_line::{Build, MOST_WORKERS};
 use fixed_box::{Box3, Point};
 use morton_key::LEVELS;
@@ -19,22 +20,21 @@ use radix_tree::{Node, height};
 use std::alloc::Global;
 use std::marker::Model;
 use std::thread::Threads;
-use traversal::{nearest_among, overlaps};
+use walk_list::{nearest_among, overlaps};
 
-/// A world of triangles, which answers asks. Contracts see it as its state: its mesh, the points now and
-/// those of the last build, its last work, and whether no vertex was moved since it was opened, refitted or built anew.
+/// A world of triangles, which answers asks. Contracts see it as its state: its mesh, the points now and those of the
+/// last build, its last work, and whether no vertex was moved since it was opened, refitted or built anew.
 #[derive(Drop)]
 pub struct World {
     mesh: Mesh,
     points: Vec<Point>,
     index: Index,
-    work: u64,
     settled: bool,
 }
 
 impl Model for World {
     ghost use Rattle.world_engine.specs.Worlds.{WorldState};
-    ghost use Rattle.world_engine.specs.Kept.{IsKept};
+    ghost use Rattle.world_engine.specs.Kept.{IsKept, last_work};
 
     ghost Value = { WorldState };
 
@@ -42,7 +42,7 @@ impl Model for World {
       mesh = w.mesh;
       now = w.points.items;
       built = w.index.built.value.items;
-      work = w.work;
+      work = last_work w.index;
       settled = w.settled;
     } };
 
@@ -77,18 +77,19 @@ impl World {
             mesh,
             points,
             index,
-            work: 0,
             settled: true,
         })
     }
 
     /// Answers what is asked; the points of a `Seg` and of a `Move` have to be in the world.
     ///
-    /// `Refused` is answered to no ask but `Move`, with `NoSuchVertex`, exactly where the number is no vertex's,
-    /// `NodeOf`, with `NoSuchNode`, exactly where the number is not below the count of inner nodes, and `Cells`, with
-    /// `NoSuchLevel`, exactly where the level is above `LEVELS`; the world is then as before. `Nothing`, `Move`, `Stat`,
-    /// `Work` and every refused ask take no memory; nor do `Seg` and `NodeOf` where no vertex was moved since the world
-    /// was opened, refitted or built anew. After `Memory` the world is as before.
+    /// `Refused` is answered to no ask but `Move`, with `NoSuchVertex`, exactly where the number is no vertex's (they
+    /// begin with 1), `NodeOf`, with `NoSuchNode`, exactly where the number is not below the count of inner nodes, and
+    /// `Cells`, with `NoSuchLevel`, exactly where the level is above `LEVELS`; the world is then as before.
+    ///
+    /// `Nothing`, `Move`, `Stat`, `Work` and every refused ask take no memory; nor do `Seg` and `NodeOf` where no vertex
+    /// was moved since the world was opened, refitted or built anew. After `Memory` the world is as before, and the next
+    /// ask that looks at boxes fits those that are still to be fitted.
     pub fn answer<R: Threads + Sync, G: Gate>(
         &mut self,
         rt: &R,
@@ -113,7 +114,7 @@ impl World {
             Ask::Cells { level } => self.cells(alloc, *level),
             Ask::Groups => self.groups(alloc),
             Ask::Stat => Ok(self.stat()),
-            Ask::Work => Ok(Reply::WorkIs(self.work)),
+            Ask::Work => Ok(Reply::WorkIs(self.index.last_work())),
         }
     }
 
@@ -123,9 +124,9 @@ impl World {
         ensures memory { OnErr result (self.new ≡ self.old) }
     {
         self.index.mend(alloc, &self.points, self.mesh.faces())?;
-        let found = overlaps(alloc, &self.index.tree, &self.index.boxes, around)?;
-        self.work = found.work;
-        Ok(Reply::Overlaps(found.numbers))
+        let numbers = overlaps(alloc, &self.index.list, around)?;
+        self.index.work = LastWork::Uncounted(*around);
+        Ok(Reply::Overlaps(numbers))
     }
 
     fn segment(&mut self, alloc: Global, p: Point, q: Point) -> Result<Reply, Memory>
@@ -140,7 +141,7 @@ impl World {
             points: &self.points,
             faces: self.mesh.faces(),
         };
-        Ok(match nearest_among(&self.index.tree, &corners, p, q) {
+        Ok(match nearest_among(&self.index.list, &corners, p, q) {
             Some((tri, frac)) => Reply::Hit {
                 tri,
                 at: HitFraction::new(frac),
@@ -223,6 +224,7 @@ impl World {
         ensures state { self.new ≡ self.old }
         ensures free { is_free self.old (Ask.NodeOf number) ≡ true → IsOk result }
     {
+        // A refusal takes no memory, so it comes before any fit.
         if self.index.tree.nodes().len() as u64 <= number {
             return Ok(Reply::Refused(LineFault::NoSuchNode));
         }

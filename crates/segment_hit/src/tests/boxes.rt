@@ -6,7 +6,7 @@ ghost use Rattle.fixed_box.specs.World.{BoxInWorld};
 
 use crate::tests::candidates::entered;
 use crate::tests::{Digits, parts, point};
-use crate::{Entry, Frac, enters, entry};
+use crate::{Entry, Frac, Line, enters, entry, line_of, passage, reach};
 use fixed_box::{Box3, Point, in_world};
 use std::rt::HostRuntime;
 
@@ -195,4 +195,65 @@ fn small_segments_enter_at_the_least_candidate(rt: HostRuntime) {
     }
     // counted by that script, which also found 485 of them between both ends and 139 at the end alone
     assert_eq!(rt; entries, 1004);
+}
+
+/// The line of a segment in the world.
+fn line_in_world(p: Point, q: Point) -> Option<Line> {
+    if in_world(&p) && in_world(&q) {
+        Some(line_of(&p, &q))
+    } else {
+        None
+    }
+}
+
+/// Where the line enters the box, if it is in the box at all.
+fn passed(l: &Line, b: &Box3) -> Option<i64> {
+    if box_in_world(b) {
+        let way = passage(l, b);
+        if way.enter.at <= way.leave.at && way.enter.at <= l.whole {
+            return Some(way.enter.at);
+        }
+    }
+    None
+}
+
+/// How far the line reaches up to the fraction.
+fn reached(l: &Line, f: &Frac) -> Option<i64> {
+    if 0 <= f.num && f.num <= f.den {
+        Some(reach(l, f).at)
+    } else {
+        None
+    }
+}
+
+/// Whether the line tells the entry that `enters` tells, or none where it tells none.
+fn agrees(p: Point, q: Point, b: &Box3) -> bool {
+    let Some(l) = line_in_world(p, q) else {
+        return false;
+    };
+    match (enters_in_world(p, q, b), passed(&l, b)) {
+        (Some(f), Some(place)) => {
+            let own = i128::from(place) * i128::from(f.den);
+            own == i128::from(f.num) * i128::from(l.whole) && reached(&l, &f) == Some(place)
+        }
+        (None, None) => true,
+        _ => false,
+    }
+}
+
+#[test]
+fn a_line_enters_a_box_where_its_segment_does(rt: HostRuntime) {
+    for (segment, corners, _) in ENTRIES.iter() {
+        assert!(rt;
+            agrees(start(segment), end(segment), &between(corners)),
+            "{segment:?} {corners:?}"
+        );
+    }
+    let mut digits = Digits { seed: 21 };
+    for _ in 0..4000 {
+        let p = digits.point();
+        let q = digits.point();
+        let b = Box3::of_corners(digits.point(), digits.point());
+        assert!(rt; agrees(p, q, &b), "{p:?} {q:?} {b:?}");
+    }
 }

@@ -9,8 +9,7 @@ pub fit_under-round_first-requires : goal.fit_under-round_first-requires
 fit_under-round_first-requires t c =
     let tree = c.args.tree.now in
     let kids = children tree c.in-Inner.number c.args.child c.left-first.result c.right-second.result c.in-Inner.is
-    c.requires.child c.left-first.ensures c.right-second.ensures in
-    (
+    c.requires.child c.left-first.ensures c.right-second.ensures in (
       omega (
         arith,
         ap (span_of tree) c.in-Inner.is,
@@ -32,8 +31,7 @@ fit_under-round_second-requires t c =
     let table = c.fit_under-round_first.ensures.table in
     let keys = c.fit_under-round_first.ensures.keys in
     let kids = children tree c.in-Inner.number c.args.child c.left-first.result c.right-second.result c.in-Inner.is
-    c.requires.child c.left-first.ensures c.right-second.ensures in
-    (
+    c.requires.child c.left-first.ensures c.right-second.ensures in (
       omega (
         arith,
         ap (span_of tree) c.in-Inner.is,

@@ -1,6 +1,6 @@
 use Rattle.std.proofs.Common.{sym, refl}
 use Rattle.std.proofs.lemmas.Result.{IfOk-weaker}
-use Rattle.traversal.proofs.Work.{work_of-none}
+use Rattle.traversal.proofs.Reached.{work_of-none}
 use Rattle.traversal.proofs.Roots.{met_in-empty, whole_tests}
 use Rattle.traversal.proofs.overlapping.collect_all.Goals as goal
 

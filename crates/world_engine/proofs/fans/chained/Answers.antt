@@ -10,9 +10,10 @@ loop-triangle-preserved c =
     let new = c.relink-links.new.latest in
     let lent = c.deref_mut.result.now in
     let n = c.loop-triangle.triangle in
-    let count : length new ≡ length old.items = omega (arith, c.relink-links.auto.latest, ap length c.deref_mut.ensures.value) in
-    let next = one_more old.items new c.loop-triangle.earlier.items c.relink-links.result c.args.faces.now c.args.vertices n
-    c.loop-triangle.invariant count
+    let count : length new ≡ length old.items =
+    omega (arith, c.relink-links.auto.latest, ap length c.deref_mut.ensures.value) in
+    let next = one_more old.items new c.loop-triangle.earlier.items c.relink-links.result c.args.faces.now
+    c.args.vertices n c.loop-triangle.invariant count
     (λ v has. c.relink-links.ensures.links v has ∙ ap (λ xs. latest_at xs v) c.deref_mut.ensures.value)
     (λ v has. c.relink-links.ensures.here v has)
     (λ v hasnt. c.relink-links.ensures.elsewhere v hasnt ∙ ap (λ xs. latest_at xs v) c.deref_mut.ensures.value) in

@@ -8,4 +8,5 @@ returns-clause-index g c =
       each = search rules;
       nodes = search rules;
       fits = search rules;
+      list = search rules;
     }) tt

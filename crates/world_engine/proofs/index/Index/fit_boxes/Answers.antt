@@ -16,6 +16,6 @@ fit_moved-requires-clause-still c = λ t lt still.
 pub returns-clause-index : goal.returns-clause-index
 returns-clause-index c =
     boxes_made c.args.self.now c.args.points.now c.args.faces.now c.requires.index
-    (with_items c.args.self.now.boxes c.fit_moved.new.boxes) (Some c.match-take.fans)
+    (with_items c.args.self.now.boxes c.fit_moved.new.boxes) (Some c.match-take.fans) c.last_work.result
     (take_at c.fit_moved.new.boxes _ c.args.self.now.boxes.len
     (omega (arith, c.fit_moved.auto.boxes, c.deref_mut.ensures.len)) ∙ c.fit_moved.ensures) (search rules)

@@ -17,7 +17,7 @@ invariant_of-self c =
       in_world = All-set InWorld points position c.args.to c.requires old.in_world;
       few = omega (arith, count, old.few);
       named = subst (λ n. All (IsFaceOf n) c.self.inside.mesh.faces) (sym count) old.named;
-      index = moved_index c.self.inside.index points c.self.inside.mesh.faces old.index c.mark.new.self position c.args.to
-          c.mark.ensures.vertices c.mark.ensures.marked c.mark.ensures.kept;
+      index = moved_index c.self.inside.index points c.self.inside.mesh.faces old.index c.mark.new.self position
+          c.args.to c.mark.ensures.vertices c.mark.ensures.marked c.mark.ensures.kept;
       settled = λ at_rest. absurd (false≢true at_rest);
     }

@@ -1,0 +1,17 @@
+pub mod Sums
+pub mod Frames
+pub mod Settings
+pub mod Tasks
+pub mod States
+pub mod Start
+pub mod Events
+pub mod Counts
+pub mod Lawful
+pub mod Safety
+pub mod Replays
+pub mod Complete
+pub mod Stopped
+pub mod Cores
+pub mod FrameLaws
+pub mod Forks
+pub mod Terrains

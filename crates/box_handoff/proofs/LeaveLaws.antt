@@ -1,0 +1,106 @@
+-- To leave a node is the machine's event on the state that is shown.
+use Rattle.std.proofs.Common.{◌≡◌, ℕ, ◌+◌, ◌≤◌, List, [], ◌∷◌, set, sym, ap, ◌∙◌, subst, arith}
+use Rattle.std.specs.Prelude.{bit_or}
+use Rattle.std.proofs.Math.ListN.{length-set}
+use mathlib.Core.Option.{none, some}
+use lib.ListN.{get_elem?}
+use Rattle.atomic_table.specs.Table as table
+use Rattle.atomic_table.specs.Table.{step, gives, Allows, rest}
+use Rattle.arrival_core.specs.declared.packets.Packet.{Packet}
+use Rattle.arrival_core.specs.declared.packets.Load.{Load}
+use Rattle.arrival_core.specs.declared.packets.Phase.{Phase}
+use Rattle.arrival_core.specs.declared.packets.Phase.TheVariants.{Collecting}
+use Rattle.arrival_core.specs.declared.packets.Place.TheVariants.{Holds}
+use Rattle.arrival_core.specs.Frames.{Frame, other}
+use Rattle.arrival_core.specs.States.{State}
+use Rattle.arrival_core.specs.Events as core
+use Rattle.arrival_core.specs.Events.{put, event, event_in, go_up, join}
+use Rattle.box_handoff.specs.declared.slots.SlotPacket.{SlotPacket}
+use Rattle.box_handoff.specs.declared.views.Event.TheVariants.{Leave}
+use Rattle.box_handoff.specs.declared.views.Given.{Given}
+use Rattle.box_handoff.specs.declared.views.View.{View}
+use Rattle.box_handoff.specs.Slots.{packed}
+use Rattle.box_handoff.specs.Entries.{Numbers, Shown, numbers, one, frame, grown, after, moved, worker_of}
+use Rattle.box_handoff.specs.Rule.{Rule, Shows, full, side_no, slot}
+use Rattle.box_handoff.specs.Plays.{Mine, mine, DidLeave}
+use Rattle.box_handoff.proofs.Standing.{held_worker, phase_is, stands, few_after}
+use Rattle.box_handoff.proofs.WordLaws.{with_bit, side_kept, node_set, batch_kept, place_set, side_le}
+
+module _ (g : Given) (id : ℕ) (me : Mine) (is : me.0 ≡ one g (mine me)) (l : Load) (slots : ℕ)
+    (seen : Shown (frame g) l.split) (found : Packet) (phase : (mine me).phase ≡ Collecting l found)
+    (holds : me.1 ≡ (slot ((numbers g).number l.split) (other l.side), packed (other l.side) found) ∷ []) where
+  abbrev f : Frame
+  f = frame g
+
+  abbrev N : Numbers
+  N = numbers g
+
+  -- the node's word and the other side's slot
+  abbrev place : ℕ
+  place = f.batches + N.number l.split
+
+  abbrev spot : ℕ
+  spot = slot (N.number l.split) (other l.side)
+
+  module _ (s : table.State SlotPacket View) (h : Rule g s) (at : get_elem? s.views id ≡ some me.0) where
+    abbrev m : State
+    m = h.machine
+
+    abbrev done : State
+    done = core.leave f (mine me).number l found m
+
+    event_is : event f (mine me).number m ≡ done
+    unfolding event event_in
+    event_is = ap (λ (p : Phase). event_in f (mine me).number p m)
+        (phase_is g id me is s h at (Collecting l found) phase)
+
+    worker_is : done.worker ≡ put m.worker (mine me).number (worker_of (grown f (mine me) Leave))
+    unfolding core.leave after
+    worker_is = ap (put m.worker (mine me).number)
+        (ap (go_up f (f.above_node l.split) (join l.split l.side l.packet found)) (held_worker g id me is s h at)
+        ∙ sym (ap (λ (p : Phase). moved f (worker_of (mine me)) Leave p) phase))
+
+    shown : Shows f N (with_bit s.words place 6) (set s.homes spot (some (packed (other l.side) found))) done
+    unfolding core.leave
+    shown =
+        let c = h.shows.word_count in
+        let n = h.numbered in record {
+          word_count = length-set s.words _ _ ∙ c;
+          slot_count = length-set s.homes _ _ ∙ h.shows.slot_count;
+          claims = batch_kept f N n s.words l.split 6 c seen m.claimed h.shows.claims;
+          opened = side_kept f N n s.words l.split 6 c seen 0 m.opened
+              (λ d z. let ld : side_no d ≤ 1 = side_le d in omega arith) h.shows.opened;
+          arrived = side_kept f N n s.words l.split 6 c seen 2 m.arrived
+              (λ d z. let ld : side_no d ≤ 1 = side_le d in omega arith) h.shows.arrived;
+          collected = side_kept f N n s.words l.split 6 c seen 4 m.collected
+              (λ d z. let ld : side_no d ≤ 1 = side_le d in omega arith) h.shows.collected;
+          returned = node_set f N n s.words l.split 6 c seen m.returned h.shows.returned;
+          places = place_set f N n s.homes m.place l.split (other l.side) (some (packed (other l.side) found))
+              (Holds found) h.shows.slot_count seen (full found) h.shows.places;
+        }
+
+  leaving_at : Allows (Rule g) slots id me place (λ n. bit_or n 64) (DidLeave (step slots place 64 0 none) me)
+  leaving_at s h sized at fits =
+      let e = event_is s h at in
+      let w = worker_is s h at in (
+        one g (grown f (mine me) Leave),
+        gives,
+        tt,
+        stands g id me is s h at Leave (done s h at) e w _ _
+            (subst (λ (x : List (ℕ × SlotPacket)).
+            Shows f N (with_bit s.words place 6) (table.put_back s.homes x) (done s h at)) (sym holds) (shown s h at)),
+        (
+          ap (λ (x : Given). (one x (grown (frame x) (mine me) Leave), rest me.1))
+              (sym (ap (λ (x : View). x.given) is)),
+          few_after g id me is s h at Leave (done s h at) e w,
+        ),
+      )
+
+  -- what the step on the node's word requires
+  pub leaving : (word mask : ℕ) → word ≡ place → mask ≡ 64 →
+      Allows (Rule g) slots id me word (λ n. bit_or n mask) (DidLeave (step slots word mask 0 none) me)
+  leaving word mask w k =
+      subst (λ (x : ℕ). Allows (Rule g) slots id me x (λ n. bit_or n mask) (DidLeave (step slots x mask 0 none) me))
+      (sym w)
+      (subst (λ (x : ℕ). Allows (Rule g) slots id me place (λ n. bit_or n x) (DidLeave (step slots place x 0 none) me))
+      (sym k) leaving_at)

@@ -1,0 +1,18 @@
+use Rattle.std.proofs.Common.{arith, sym, subst, ◌≡◌, ◌+◌}
+use Rattle.box_handoff.specs.declared.views.About.{About}
+use Rattle.box_handoff.specs.Entries.{IsGiven, given_of, frame, numbers}
+use Rattle.box_handoff.proofs.WholeFrame.{whole_given}
+use Rattle.box_handoff.proofs.handoffs.Handoff.climb.Goals as goal
+
+pub batches_of-base-requires : goal.batches_of-base-requires
+batches_of-base-requires g c = let w = c.requires.own.made.whole in omega (arith, w.live_count, w.lawful.few)
+
+pub climb_with-tally-requires-clause-words : goal.climb_with-tally-requires-clause-words
+climb_with-tally-requires-clause-words g c = λ κs o. let made = c.requires.own.made in
+    subst (λ (a : About). (c.batches_of-base.result ≡ (frame (given_of a)).batches)
+    × (c.args.self.now.table.shared.table_id.words ≡ (frame (given_of a)).batches + (numbers (given_of a)).count))
+    (sym made.key_is) (c.batches_of-base.ensures.value, made.words)
+
+pub climb_with-tally-requires-clause-given : goal.climb_with-tally-requires-clause-given
+climb_with-tally-requires-clause-given g c = λ κs o. let made = c.requires.own.made in
+    subst (λ (a : About). IsGiven (given_of a)) (sym made.key_is) (whole_given _ made.whole)

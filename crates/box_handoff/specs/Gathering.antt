@@ -1,0 +1,99 @@
+-- Seats while they are split off and gathered, and packets while they are read out.
+-- No public clause cites this module.
+use Rattle.std.specs.Prelude.{ℕ, ◌≡◌, ◌+◌, ◌<◌, ◌≤◌, ◌*◌, ◌^◌, [], ◌∷◌, List, length, Bool, true, false, slice_index_or, All}
+use mathlib.Core.Option.{some}
+use lib.ListN.{get_elem?}
+use Rattle.atomic_table.specs.Seated.{TableId}
+use Rattle.atomic_table.specs.declared.shared.Seat.{Seat}
+use Rattle.arrival_core.specs.declared.packets.Packet.{Packet}
+use Rattle.arrival_core.specs.declared.packets.Phase.TheVariants.{Ended}
+use Rattle.arrival_core.specs.declared.packets.Side.{Side}
+use Rattle.arrival_core.specs.declared.packets.Side.TheVariants.{Left, Right}
+use Rattle.arrival_core.specs.declared.packets.Tally.{Tally}
+use Rattle.arrival_core.specs.Frames.{packet_at}
+use Rattle.box_handoff.specs.declared.slots.SlotPacket.{SlotPacket}
+use Rattle.box_handoff.specs.declared.views.Given.{Given}
+use Rattle.box_handoff.specs.declared.views.Entry.{Entry}
+use Rattle.box_handoff.specs.declared.views.View.{View}
+use Rattle.box_handoff.specs.declared.seats.HandSeat.{HandSeat}
+use Rattle.box_handoff.specs.Slots.{packed}
+use Rattle.box_handoff.specs.Entries.{frame, unbegun_below, total, In}
+use Rattle.box_handoff.specs.Packets.{ArePackets}
+use Rattle.box_handoff.specs.Rule.{slot}
+use Rattle.box_handoff.specs.Seats.{IsSeat, seat_fits, seat_steps}
+
+-- a seat of that number that has not begun
+pub record IsUnbegun (g : Given) (z : TableId) (k : ℕ) (s : HandSeat) : Type 0 where
+  pub own : IsSeat g z s
+  pub number : s.number ≡ k
+  pub unbegun : s.ended ≡ false
+
+-- seats of the numbers from k on, in order, none begun
+abbrev pub AreUnbegun : Given → TableId → ℕ → List HandSeat → Type 0
+AreUnbegun g z k [] = Unit {0}
+AreUnbegun g z k (s ∷ ss) = IsUnbegun g z k s × AreUnbegun g z (k + 1) ss
+
+-- a seat that has ended
+pub record HasEnded (g : Given) (z : TableId) (s : HandSeat) : Type 0 where
+  pub own : IsSeat g z s
+  pub ended : s.ended ≡ true
+
+-- while seats are split off
+pub record IsParting (g : Given) (z : TableId) (all number : ℕ) (rest : Seat SlotPacket View)
+    (seats : List HandSeat) : Type 0 where
+  pub some : 0 < number
+  pub table : rest.table_id ≡ z
+  pub view : rest.me ≡ (record { given = g; entries = unbegun_below number }, [])
+  pub fresh : AreUnbegun g z number seats
+  pub count : length seats + number ≡ all
+
+-- a view has the entry of that number, which has ended
+abbrev pub Covers : ℕ → View → Type 0
+Covers k v = (e : Entry) × In e v.entries × (e.number ≡ k) × (e.phase ≡ Ended)
+
+-- each entry of the view has ended
+abbrev pub AllEnded : View → Type 0
+AllEnded v = (e : Entry) → In e v.entries → e.phase ≡ Ended
+
+-- the tallies of a view's entries, added up
+abbrev pub fits_of : View → ℕ
+fits_of v = total (λ (e : Entry). e.tally.fits) v.entries
+
+abbrev pub steps_of : View → ℕ
+steps_of v = total (λ (e : Entry). e.tally.steps) v.entries
+
+-- while seats are gathered
+pub record IsGathering (g : Given) (z : TableId) (all left : List HandSeat) (before now : Seat SlotPacket View)
+    (start sum : Tally) : Type 0 where
+  pub table : now.table_id ≡ z
+  pub home : now.me.1 ≡ []
+  pub given : now.me.0.given ≡ g
+  pub over : AllEnded now.me.0
+  pub ended : All (HasEnded g z) left
+  -- those that are left stand first among all
+  pub front : (k : ℕ) (s : HandSeat) → k < length left → slice_index_or left k s ≡ slice_index_or all k s
+  pub within : length left ≤ length all
+  pub covers : (k : ℕ) (s : HandSeat) → length left ≤ k → k < length all →
+      Covers (slice_index_or all k s).number now.me.0
+  pub kept : (k : ℕ) → Covers k before.me.0 → Covers k now.me.0
+  pub fits : sum.fits ≡ fits_of now.me.0
+  pub steps : sum.steps ≡ steps_of now.me.0
+  pub fits_added : sum.fits + seat_fits left ≡ start.fits + seat_fits all
+  pub steps_added : sum.steps + seat_steps left ≡ start.steps + seat_steps all
+  pub fits_low : sum.fits + 2 ^ 32 * length left ≤ 2 ^ 38
+  pub steps_low : sum.steps + 2 ^ 32 * length left ≤ 2 ^ 38
+
+-- each slot of a closed table keeps its child's packet
+abbrev pub AreKept : Given → List SlotPacket → Type 0
+AreKept g slots = (t : ℕ) (d : Side) → t < (frame g).nodes →
+    get_elem? slots (slot t d) ≡ some (packed d (packet_at (frame g) t d))
+
+-- while packets are taken out of a closed table
+pub record IsReading (g : Given) (items now : List SlotPacket) (filled : List Bool) (count : ℕ)
+    (left right : List Packet) (t : ℕ) : Type 0 where
+  pub same : now ≡ items
+  pub places : count ≡ 2 * (frame g).nodes
+  pub full : (k : ℕ) → 2 * t ≤ k → k < count → slice_index_or filled k false ≡ true
+  pub empty : (k : ℕ) → k < 2 * t → slice_index_or filled k false ≡ false
+  pub lefts : ArePackets g.keys g.boxes Left t left
+  pub rights : ArePackets g.keys g.boxes Right t right

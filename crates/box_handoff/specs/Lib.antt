@@ -1,0 +1,14 @@
+pub mod Packets
+pub mod Counts
+pub mod Seats
+pub mod Entries
+pub mod Climbs
+pub mod Slots
+pub mod Rule
+pub mod Plays
+pub mod Cuts
+pub mod Made
+pub mod Gathering
+pub mod Driving
+pub mod Ends
+pub mod Assembling

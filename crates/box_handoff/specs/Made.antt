@@ -1,0 +1,32 @@
+-- What a handoff's table has to do with what it was made of.
+use Rattle.std.specs.Prelude.{ℕ, ◌≡◌, ◌<◌, ◌+◌, ◌*◌, ◌^◌, List, length, slice_index_or}
+use Rattle.atomic_table.specs.Seated.{TableId}
+use Rattle.arrival_core.specs.Frames.{Frame}
+use Rattle.arrival_core.specs.Tasks.{IsWhole}
+use Rattle.std.specs.declared.snapshot.Snapshot.{Snapshot}
+use Rattle.box_handoff.specs.declared.views.Given.{Given}
+use Rattle.box_handoff.specs.declared.views.About.{About}
+use Rattle.box_handoff.specs.Entries.{Numbers, setting_of, frame, given_of, numbers}
+
+-- the table's key is what it was made of, and it has a word for each batch and each node, and two slots for each node
+pub record IsMade (key about : About) (z : TableId) : Type 0 where
+  pub key_is : key ≡ about
+  pub words : z.words ≡ (frame (given_of about)).batches + (numbers (given_of about)).count
+  pub slots : z.slots ≡ 2 * (numbers (given_of about)).count
+  pub room : z.words < 2 ^ 60
+  pub whole : IsWhole (setting_of (given_of about))
+
+-- the positions below a count, in order
+pub record ArePositions (count : ℕ) (live : List ℕ) : Type 0 where
+  pub count_is : length live ≡ count
+  pub each : (p : ℕ) → p < length live → slice_index_or live p 0 ≡ p
+
+-- what a table's key says it is over, with the machine's frame and the numbers of its nodes
+abbrev pub given_in : Snapshot About → Given
+given_in k = given_of k.value
+
+abbrev pub frame_in : Snapshot About → Frame
+frame_in k = frame (given_of k.value)
+
+abbrev pub numbers_in : Snapshot About → Numbers
+numbers_in k = numbers (given_of k.value)

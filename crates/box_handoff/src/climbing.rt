@@ -1,0 +1,260 @@
+//! How one seat climbs.
+ghost use Rattle.std.specs.Prelude.{true, ◌≡◌, ◌<◌, ◌+◌, ◌^◌, ◌≤◌, ℕ, [], ◌∷◌, ◌++◌, length, Some, None, suc};
+ghost use Rattle.box_handoff.specs.Made.{given_in, frame_in, numbers_in};
+ghost use Rattle.box_handoff.specs.Entries.{IsGiven, numbers, frame, given_of, one, worker_of};
+ghost use Rattle.box_handoff.specs.Plays.{mine, IsSmall};
+ghost use Rattle.box_handoff.specs.Climbs.{Climbed, IsCarried, Working};
+ghost use Rattle.morton_key.specs.Keys.{IsLawful, tri_at};
+ghost use Rattle.radix_tree.specs.Fit.{box_of_triangle};
+ghost use Rattle.arrival_core.specs.Frames.{other, packet_at};
+ghost use Rattle.arrival_core.specs.Events.{resume, join};
+ghost use Rattle.arrival_core.specs.Start.{fresh};
+ghost use Rattle.arrival_core.specs.declared.packets.Phase.TheVariants.{Looking, Carry, Opened, Second, Collecting, Ended};
+
+use crate::plays::{HandTable, TableSeat};
+use crate::slots::unpack;
+use crate::steps::{across, arrive, collect, leave, look, open, place_of, put, slot_of, take};
+use crate::views::About;
+use crate::ways::Ways;
+use crate::{Load, Packet, Side, Tally};
+use arrival_core::{BATCH, Up};
+use fixed_box::{Box3, union};
+use morton_key::Key;
+use outside::Gate;
+
+/// How many batches of leaves there are.
+pub fn batches_of(about: &About<'_>) -> usize
+    requires { length about.now.live.items ≤ 2 ^ 20 }
+    ensures value { result ≡ (frame (given_of about.now)).batches }
+    ensures small { result ≤ 2 ^ 20 }
+{
+    (about.live.len() + BATCH - 1) / BATCH
+}
+
+/// The packet of a node, from that of one child and that of the other.
+fn joined(load: &Load, found: &Packet) -> Packet
+    ensures { result ≡ join load.now.split load.now.side load.now.packet found.now }
+{
+    match load.side {
+        Side::Left => Packet {
+            first: load.packet.first,
+            last: found.last,
+            split: load.split,
+            fit: union(&load.packet.fit, &found.fit),
+        },
+        Side::Right => Packet {
+            first: found.first,
+            last: load.packet.last,
+            split: load.split,
+            fit: union(&found.fit, &load.packet.fit),
+        },
+    }
+}
+
+/// Carries a load up until the other side of a node has not arrived, or to the root. The answer is the tally then.
+pub fn carry_up<W: Ways>(
+    table: &HandTable<'_>,
+    seat: &mut TableSeat,
+    base: usize,
+    ways: &W,
+    load: Load,
+    tally: Tally,
+) -> Tally
+    requires table { seat.old.table_id ≡ table.now.table_id }
+    requires words { let f = frame_in table.now.key in (base ≡ f.batches)
+        × (table.now.table_id.words ≡ f.batches + (numbers_in table.now.key).count) }
+    requires room { table.now.table_id.words < 2 ^ 60 }
+    requires one { seat.old.me.0 ≡ one (given_in table.now.key) (mine seat.old.me) }
+    requires home { seat.old.me.1 ≡ [] }
+    requires phase { (mine seat.old.me).phase ≡ Carry load }
+    requires load { IsCarried (frame_in table.now.key) load }
+    requires tally { tally ≡ (mine seat.old.me).tally }
+    requires ways { W.stands ways.now (given_in table.now.key).keys }
+    requires given { IsGiven (given_in table.now.key) }
+    ensures climbed { Climbed (given_in table.now.key) seat.old seat.new }
+    ensures worker { worker_of (mine seat.new.me) ≡ resume (frame_in table.now.key) (mine seat.old.me).next
+        (mine seat.old.me).pending result }
+{
+    let mut load = load;
+    let mut tally = tally;
+    loop {
+        let place = place_of(&load);
+        open(table, seat, base, place, &load);
+        put(table, seat, place, &load);
+        if !arrive(table, seat, base, place, &load) {
+            tally.steps += 2;
+            return tally;
+        }
+        collect(table, seat, base, place, &load);
+        let theirs = across(load.side);
+        let kept = look(table, seat, slot_of(place, theirs));
+        let found = unpack(load.split, theirs, &kept);
+        leave(table, seat, base, place, &load, &found);
+        tally.steps += 4;
+        tally.fits += 1;
+        let packet = joined(&load, &found);
+        match ways.parent(packet.first, packet.last) {
+            None => return tally,
+            Some(Up { split, side }) => {
+                load = Load {
+                    split,
+                    side,
+                    packet,
+                };
+            }
+        }
+    }
+}
+
+/// The box of the triangle at a position.
+fn box_at(keys: &[Key], boxes: &[Box3], position: usize) -> Box3
+    requires lawful { IsLawful keys.now }
+    requires count { length boxes.now ≡ length keys.now }
+    requires within { position < length keys.now }
+    ensures { result ≡ box_of_triangle boxes.now (tri_at keys.now position) }
+{
+    boxes[keys[position].tri as usize - 1]
+}
+
+/// The packet of the leaf at a position.
+fn leaf_packet(about: &About<'_>, position: u32) -> Packet
+    requires lawful { IsLawful about.now.keys.now }
+    requires boxes { length about.now.boxes.now ≡ length about.now.keys.now }
+    requires within { position < length about.now.keys.now }
+    ensures { result ≡ (frame (given_of about.now)).leaf_packet position }
+{
+    let fit = box_at(about.keys, about.boxes, position as usize);
+    Packet {
+        first: position,
+        last: position,
+        split: position,
+        fit,
+    }
+}
+
+/// The load of the leaf at a position.
+fn leaf_load<W: Ways>(about: &About<'_>, ways: &W, position: u32) -> Load
+    requires given { IsGiven (given_of about.now) }
+    requires within { position < suc (frame (given_of about.now)).nodes }
+    requires live { (frame (given_of about.now)).live_leaf position ≡ true }
+    requires ways { W.stands ways.now about.now.keys.now }
+    ensures value { let f = frame (given_of about.now) in
+        result ≡ record {
+          split = (f.above_leaf position).split;
+          side =
+              (f.above_leaf position).side;
+          packet = f.leaf_packet position;
+        } }
+    ensures load { IsCarried (frame (given_of about.now)) result }
+{
+    let packet = leaf_packet(about, position);
+    let Some(Up { split, side }) = ways.parent(position, position) else {
+        unreachable!()
+    };
+    Load {
+        split,
+        side,
+        packet,
+    }
+}
+
+/// Carries the leaves of a batch up, one by one.
+fn carry_batch<W: Ways>(
+    table: &HandTable<'_>,
+    about: &About<'_>,
+    seat: &mut TableSeat,
+    base: usize,
+    ways: &W,
+    batch: usize,
+    tally: Tally,
+) -> Tally
+    requires table { seat.old.table_id ≡ table.now.table_id }
+    requires key { table.now.key.value ≡ about.now }
+    requires words { let f = frame_in table.now.key in (base ≡ f.batches)
+        × (table.now.table_id.words ≡ f.batches + (numbers_in table.now.key).count) }
+    requires room { table.now.table_id.words < 2 ^ 60 }
+    requires within { batch < (frame_in table.now.key).batches }
+    requires one { seat.old.me.0 ≡ one (given_in table.now.key) (mine seat.old.me) }
+    requires home { seat.old.me.1 ≡ [] }
+    requires worker { worker_of (mine seat.old.me) ≡ resume (frame_in table.now.key) (batch + 1)
+        ((frame_in table.now.key).batch batch) tally }
+    requires ways { W.stands ways.now (given_in table.now.key).keys }
+    requires given { IsGiven (given_in table.now.key) }
+    ensures { Working (given_in table.now.key) seat.old seat.new (batch + 1) [] result }
+{
+    let mut tally = tally;
+    let begin = BATCH * batch;
+    let end = about.live.len().min(begin + BATCH);
+    for i in begin..end {
+        let load = leaf_load(about, ways, about.live[i]);
+        tally = carry_up(table, seat, base, ways, load, tally);
+    }
+    tally
+}
+
+/// Takes a batch and carries its leaves up.
+fn take_batch<W: Ways>(
+    table: &HandTable<'_>,
+    about: &About<'_>,
+    seat: &mut TableSeat,
+    base: usize,
+    ways: &W,
+    batch: usize,
+    tally: Tally,
+) -> Tally
+    requires table { seat.old.table_id ≡ table.now.table_id }
+    requires key { table.now.key.value ≡ about.now }
+    requires words { let f = frame_in table.now.key in (base ≡ f.batches)
+        × (table.now.table_id.words ≡ f.batches + (numbers_in table.now.key).count) }
+    requires room { table.now.table_id.words < 2 ^ 60 }
+    requires within { batch < (frame_in table.now.key).batches }
+    requires one { seat.old.me.0 ≡ one (given_in table.now.key) (mine seat.old.me) }
+    requires home { seat.old.me.1 ≡ [] }
+    requires worker { worker_of (mine seat.old.me) ≡ resume (frame_in table.now.key) batch [] tally }
+    requires ways { W.stands ways.now (given_in table.now.key).keys }
+    requires given { IsGiven (given_in table.now.key) }
+    ensures { Working (given_in table.now.key) seat.old seat.new (batch + 1) [] result }
+{
+    let was_claimed = take(table, seat, batch);
+    let tally = Tally {
+        fits: tally.fits,
+        steps: tally.steps + 1,
+    };
+    if was_claimed {
+        return tally;
+    }
+    carry_batch(table, about, seat, base, ways, batch, tally)
+}
+
+/// Takes batches and carries their leaves up, until no batch is left.
+pub fn climb_with<W: Ways, G: Gate>(
+    table: &HandTable<'_>,
+    about: &About<'_>,
+    seat: &mut TableSeat,
+    base: usize,
+    number: u32,
+    ways: &W,
+    gate: &G,
+) -> Tally
+    requires table { seat.old.table_id ≡ table.now.table_id }
+    requires key { table.now.key.value ≡ about.now }
+    requires words { let f = frame_in table.now.key in (base ≡ f.batches)
+        × (table.now.table_id.words ≡ f.batches + (numbers_in table.now.key).count) }
+    requires room { table.now.table_id.words < 2 ^ 60 }
+    requires one { seat.old.me.0 ≡ one (given_in table.now.key) (mine seat.old.me) }
+    requires home { seat.old.me.1 ≡ [] }
+    requires unbegun { worker_of (mine seat.old.me) ≡ fresh }
+    requires ways { W.stands ways.now (given_in table.now.key).keys }
+    requires given { IsGiven (given_in table.now.key) }
+    ensures climbed { Climbed (given_in table.now.key) seat.old seat.new }
+    ensures ended { (mine seat.new.me).phase ≡ Ended }
+    ensures tally { result ≡ (mine seat.new.me).tally }
+    ensures small { IsSmall (mine seat.new.me).tally }
+{
+    let mut tally = Tally { fits: 0, steps: 0 };
+    for batch in 0..base {
+        gate.pass(number, batch as u64);
+        tally = take_batch(table, about, seat, base, ways, batch, tally);
+    }
+    tally
+}

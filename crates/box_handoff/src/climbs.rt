@@ -1,0 +1,120 @@
+//! The three calls of a handoff.
+ghost use Rattle.std.specs.Prelude.{◌≡◌, ◌<◌, ◌≤◌, ℕ, length, IfOk, true, false};
+ghost use Rattle.morton_key.specs.Keys.{IsLawful};
+ghost use Rattle.box_handoff.specs.Entries.{frame};
+ghost use Rattle.box_handoff.specs.Climbs.{Grew};
+ghost use Rattle.box_handoff.specs.Packets.{AreFitted};
+ghost use Rattle.box_handoff.specs.Counts.{IsCounted};
+ghost use Rattle.box_handoff.specs.Seats.{given_by, entry_of, IsSeatOf, IsOver, AreFresh, AreAll, IsSumOf};
+
+use crate::climbing::{batches_of, climb_with};
+use crate::fitted::Fitted;
+use crate::gathering::{gather, read_out};
+use crate::handoffs::Handoff;
+use crate::making::{make, seats_of, whole};
+use crate::seats::HandSeat;
+use crate::ways::Ways;
+use crate::{Packet, Tally};
+use fixed_box::Box3;
+use morton_key::Key;
+use outside::{Gate, Memory};
+use std::alloc::Global;
+
+impl<'a> Handoff<'a> {
+    /// A handoff over all keys, and its seats, numbered from 0, none of which has begun. `boxes[t - 1]` is the box of
+    /// triangle `t`.
+    ///
+    /// It takes memory for a word for every 64 keys, and for a word and two slots for each inner node.
+    pub fn fresh(
+        alloc: Global,
+        keys: &'a [Key],
+        boxes: &'a [Box3],
+        seats: u32,
+    ) -> Result<(Handoff<'a>, Vec<HandSeat>), Memory>
+        requires lawful { IsLawful keys.now }
+        requires two { 1 < length keys.now }
+        requires count { length boxes.now ≡ length keys.now }
+        requires some { 0 < seats }
+        requires few { seats ≤ 64 }
+        ensures over { IfOk result (λ r. IsOver keys.now boxes.now seats r.0) }
+        ensures seats { IfOk result (λ r. AreFresh r.0 r.1.items) }
+    {
+        let about = whole(alloc, keys, boxes, seats)?;
+        let (handoff, first) = make(alloc, about)?;
+        let seats = seats_of(&handoff, alloc, first)?;
+        Ok((handoff, seats))
+    }
+
+    /// Takes batches of leaves and carries their boxes up, until no batch is left, and answers the seat's tally.
+    ///
+    /// Before each take it passes the gate, with the seat's number and its turn, counted from 0. Between two takes it
+    /// only goes up the tree. It waits for no other worker, tries nothing again and takes no memory. Any thread may
+    /// call it, on seats of its own.
+    pub fn climb<W: Ways, G: Gate>(&self, seat: &mut HandSeat, ways: &W, gate: &G) -> Tally
+        requires own { IsSeatOf self.now seat.old }
+        requires unbegun { seat.old.ended ≡ false }
+        requires ways { W.stands ways.now (given_by self.now).keys }
+        ensures own { IsSeatOf self.now seat.new }
+        ensures number { seat.new.number ≡ seat.old.number }
+        ensures ended { seat.new.ended ≡ true }
+        ensures tally { result ≡ seat.new.tally }
+        // each event that its view gained is the machine's for the phase then reached
+        ensures grew { Grew (frame (given_by self.now)) (entry_of seat.old) (entry_of seat.new) }
+    {
+        let base = batches_of(&self.about);
+        let tally = climb_with(
+            &self.table.shared,
+            &self.about,
+            &mut seat.seat,
+            base,
+            seat.number,
+            ways,
+            gate,
+        );
+        seat.tally = tally;
+        seat.ended = true;
+        tally
+    }
+
+    /// The packets of all children, and the tallies of all seats added up. The seats are all those of the handoff, in
+    /// any order, and each has ended. After `Memory` the handoff and the seats are dropped.
+    pub fn close(self, alloc: Global, mut seats: Vec<HandSeat>) -> Result<Fitted, Memory>
+        requires seats { AreAll self seats.items }
+        ensures packets { IfOk result (λ r. AreFitted (given_by self.entry).keys (given_by self.entry).boxes r) }
+        ensures sum { IfOk result (λ r. IsSumOf seats.items r.tally) }
+        ensures counts { IfOk result (λ r. IsCounted (length (given_by self.entry).keys)
+            (given_by self.entry).seats r.tally) }
+    {
+        let Handoff { table, about } = self;
+        let Some(last) = seats.pop() else {
+            unreachable!()
+        };
+        let HandSeat {
+            seat,
+            number: _,
+            ended: _,
+            tally: of_last,
+        } = last;
+        let (seat, tally) = gather(&table.shared, seats, seat, of_last);
+        let nodes = about.keys.len() - 1;
+        let Ok(left) = Vec::with_capacity(alloc, nodes) else {
+            return Err(Memory);
+        };
+        let Ok(right) = Vec::with_capacity(alloc, nodes) else {
+            return Err(Memory);
+        };
+        let closed = table.close_with(seat);
+        let (left, right) = read_out(closed, left, right, nodes, &about);
+        Ok(Fitted { left, right, tally })
+    }
+}
+
+fn needs_send<T: Send>(_x: &T) {}
+
+fn needs_sync<T: Sync>(_x: &T) {}
+
+/// A handoff may be shared by threads, and a seat sent to one.
+pub fn may_cross(handoff: &Handoff<'_>, seat: &HandSeat) {
+    needs_sync(handoff);
+    needs_send(seat);
+}

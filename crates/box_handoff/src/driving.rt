@@ -1,0 +1,94 @@
+//! Every seat of a handoff driven by a thread.
+ghost use Rattle.std.specs.Prelude.{◌≡◌, ◌<◌, ◌≤◌, ℕ, length, All, IfOk, slice_index_or};
+ghost use Rattle.morton_key.specs.Keys.{IsLawful};
+ghost use Rattle.box_handoff.specs.Packets.{AreFitted};
+ghost use Rattle.box_handoff.specs.Counts.{IsCounted};
+ghost use Rattle.box_handoff.specs.Seats.{given_by, AreFresh, AreAll};
+ghost use Rattle.box_handoff.specs.Driving.{IsReady, Climbs, WereDone};
+
+use crate::fitted::Fitted;
+use crate::handoffs::Handoff;
+use crate::seats::HandSeat;
+use crate::ways::Ways;
+use fixed_box::Box3;
+use morton_key::Key;
+use outside::{Gate, Memory};
+use std::alloc::Global;
+use std::thread::{self, Threads};
+
+/// A seat climbs to its end.
+fn climb_one<W: Ways, G: Gate>(handoff: &Handoff<'_>, seat: &mut HandSeat, ways: &W, gate: &G)
+    requires ready { IsReady handoff.now seat.old }
+    requires ways { W.stands ways.now (given_by handoff.now).keys }
+    ensures { Climbs handoff.now seat.old seat.new }
+{
+    let _tally = handoff.climb(seat, ways, gate);
+}
+
+/// Every seat climbs, each in a thread of its own where there is one.
+fn climb_slice<R: Threads + Sync, W: Ways, G: Gate>(
+    rt: &R,
+    handoff: &Handoff<'_>,
+    seats: &mut [HandSeat],
+    ways: &W,
+    gate: &G,
+)
+    requires some { 0 < length seats.old }
+    requires ready { All (IsReady handoff.now) seats.old }
+    requires ways { W.stands ways.now (given_by handoff.now).keys }
+    ensures { WereDone handoff.now seats.old seats.new }
+{
+    let count = seats.len();
+    thread::for_each_mut(
+        rt,
+        seats,
+        count,
+        &|_: usize, seat: &mut HandSeat|
+            requires { IsReady handoff.now seat.now × W.stands ways.now (given_by handoff.now).keys }
+            ensures { Climbs handoff.entry.now seat.entry.now seat.exit.now }
+        { climb_one(handoff, seat, ways, gate) },
+    );
+}
+
+/// Every seat climbs to its end, each in a thread of its own where there is one.
+fn climb_all<R: Threads + Sync, W: Ways, G: Gate>(
+    rt: &R,
+    handoff: &Handoff<'_>,
+    seats: &mut Vec<HandSeat>,
+    ways: &W,
+    gate: &G,
+)
+    requires some { 0 < length seats.old.items }
+    requires fresh { AreFresh handoff.now seats.old.items }
+    requires ways { W.stands ways.now (given_by handoff.now).keys }
+    ensures { AreAll handoff.now seats.new.items }
+{
+    climb_slice(rt, handoff, seats.as_mut_slice(), ways, gate)
+}
+
+/// The packets of all children, fitted by so many workers, each with a seat in a thread of its own where there is one.
+/// `boxes[t - 1]` is the box of triangle `t`.
+///
+/// Which worker fits which node differs from run to run; the packets and the sums of the tallies do not.
+pub fn fit<R: Threads + Sync, W: Ways, G: Gate>(
+    rt: &R,
+    alloc: Global,
+    ways: &W,
+    gate: &G,
+    keys: &[Key],
+    boxes: &[Box3],
+    workers: u32,
+) -> Result<Fitted, Memory>
+    requires lawful { IsLawful keys.now }
+    requires two { 1 < length keys.now }
+    requires count { length boxes.now ≡ length keys.now }
+    requires some { 0 < workers }
+    requires few { workers ≤ 64 }
+    requires ways { W.stands ways.now keys.now }
+    ensures packets { IfOk result (λ r. AreFitted keys.now boxes.now r) }
+    ensures counts { IfOk result (λ r. IsCounted (length keys.now) workers r.tally) }
+{
+    let (handoff, mut seats) = Handoff::fresh(alloc, keys, boxes, workers)?;
+    climb_all(rt, &handoff, &mut seats, ways, gate);
+    handoff.close(alloc, seats)
+}

@@ -1,0 +1,90 @@
+//! Seats that have ended are made one, and the packets of a closed table are read out.
+ghost use Rattle.std.specs.Prelude.{◌≡◌, ◌<◌, ◌+◌, ◌*◌, ◌≤◌, ℕ, [], length, All, slice_index_or, vec_capacity, true, false};
+ghost use Rattle.arrival_core.specs.declared.packets.Side.TheVariants.{Left, Right};
+ghost use Rattle.arrival_core.specs.Tasks.{IsWhole};
+ghost use Rattle.box_handoff.specs.Made.{given_in};
+ghost use Rattle.box_handoff.specs.Entries.{IsGiven, frame, given_of};
+ghost use Rattle.box_handoff.specs.Packets.{ArePackets};
+ghost use Rattle.box_handoff.specs.Plays.{IsSmall};
+ghost use Rattle.box_handoff.specs.Seats.{seat_fits, seat_steps};
+ghost use Rattle.box_handoff.specs.Gathering.{HasEnded, Covers, AllEnded, AreKept, fits_of, steps_of};
+
+use crate::plays::{Gathers, HandTable, TableSeat};
+use crate::seats::HandSeat;
+use crate::slots::{SlotPacket, unpack};
+use crate::views::About;
+use crate::{Packet, Side, Tally};
+use atomic_table::Closed;
+use std::alloc::Global;
+
+/// The entries of all these seats, and of the first, go to the first, and their tallies are added up.
+pub fn gather(
+    table: &HandTable<'_>,
+    mut seats: Vec<HandSeat>,
+    mut first: TableSeat,
+    start: Tally,
+) -> (TableSeat, Tally)
+    requires table { first.table_id ≡ table.now.table_id }
+    requires words { 0 < table.now.table_id.words }
+    requires home { first.me.1 ≡ [] }
+    requires given { first.me.0.given ≡ given_in table.now.key }
+    requires over { AllEnded first.me.0 }
+    requires ended { All (HasEnded (given_in table.now.key) table.now.table_id) seats.items }
+    requires few { length seats.items < 64 }
+    requires start { IsSmall start }
+    requires fits { start.fits ≡ fits_of first.me.0 }
+    requires steps { start.steps ≡ steps_of first.me.0 }
+    ensures table { result.0.table_id ≡ table.now.table_id }
+    ensures home { result.0.me.1 ≡ [] }
+    ensures covers { (k : ℕ) (s : HandSeat) → k < length seats.items →
+        Covers (slice_index_or seats.items k s).number result.0.me.0 }
+    ensures kept { (k : ℕ) → Covers k first.me.0 → Covers k result.0.me.0 }
+    ensures fits { result.1.fits ≡ fits_of result.0.me.0 }
+    ensures steps { result.1.steps ≡ steps_of result.0.me.0 }
+    ensures fits_sum { result.1.fits ≡ start.fits + seat_fits seats.items }
+    ensures steps_sum { result.1.steps ≡ start.steps + seat_steps seats.items }
+{
+    let mut sum = start;
+    while let Some(other) = seats.pop() {
+        let HandSeat {
+            seat,
+            number: _,
+            ended: _,
+            tally,
+        } = other;
+        table.join_seat::<Gathers>(&mut first, seat);
+        sum.fits += tally.fits;
+        sum.steps += tally.steps;
+    }
+    (first, sum)
+}
+
+/// Takes every packet out of a closed table, into room that was made before, and frees the table.
+pub fn read_out(
+    mut closed: Closed<SlotPacket, Global>,
+    mut left: Vec<Packet>,
+    mut right: Vec<Packet>,
+    nodes: usize,
+    about: &About<'_>,
+) -> (Vec<Packet>, Vec<Packet>)
+    requires given { IsGiven (given_of about.now) }
+    requires full { (k : ℕ) → k < closed.slots.len → slice_index_or closed.slots.filled k false ≡ true }
+    requires count { closed.slots.len ≡ 2 * (frame (given_of about.now)).nodes }
+    requires kept { AreKept (given_of about.now) closed.slots.items }
+    requires nodes { nodes ≡ (frame (given_of about.now)).nodes }
+    requires left_empty { left.items ≡ [] }
+    requires right_empty { right.items ≡ [] }
+    requires left_room { nodes ≤ vec_capacity left }
+    requires right_room { nodes ≤ vec_capacity right }
+    ensures left { ArePackets about.now.keys.now about.now.boxes.now Left nodes result.0.items }
+    ensures right { ArePackets about.now.keys.now about.now.boxes.now Right nodes result.1.items }
+{
+    for t in 0..nodes {
+        let split = t as u32;
+        left.push_reserved(unpack(split, Side::Left, &closed.take(2 * t)));
+        right.push_reserved(unpack(split, Side::Right, &closed.take(2 * t + 1)));
+    }
+    closed.free();
+    let _ = about;
+    (left, right)
+}

@@ -1,0 +1,17 @@
+//! A handoff: the shared words and slots of one fitting run, beside what it was made of.
+
+use crate::plays::Arrival;
+use crate::slots::SlotPacket;
+use crate::views::{About, View};
+use atomic_table::Table;
+use std::alloc::Global;
+use std::snapshot::Snapshot;
+
+/// One fitting run: a word for each batch of leaves and for each inner node, and two slots for each inner node.
+///
+/// It lends the keys and the boxes. Threads share it; each climbs with a seat of its own.
+#[derive(Drop)]
+pub struct Handoff<'a> {
+    pub(crate) table: Table<SlotPacket, View, Snapshot<About<'a>>, Arrival, Global>,
+    pub(crate) about: About<'a>,
+}

@@ -1,0 +1,184 @@
+//! The five steps of a worker on the words, and the places between them.
+ghost use Rattle.std.specs.Prelude.{◌≡◌, ◌<◌, ◌+◌, ◌^◌, ℕ, [], ◌∷◌, ◌++◌, length, Some, None, true, false, if◌then◌else◌};
+ghost use Rattle.box_handoff.specs.Made.{given_in, frame_in, numbers_in};
+ghost use Rattle.box_handoff.specs.Entries.{numbers, frame, given_of, one, worker_of};
+ghost use Rattle.box_handoff.specs.Slots.{packed, blank};
+ghost use Rattle.box_handoff.specs.declared.slots.SlotPacket.{SlotPacket};
+ghost use Rattle.box_handoff.specs.Rule.{slot};
+ghost use Rattle.box_handoff.specs.Plays.{mine, next_view, IsSmall};
+ghost use Rattle.box_handoff.specs.Climbs.{IsPlace, Did, in_phase};
+ghost use Rattle.arrival_core.specs.Events.{resume, stepped, go_up, join};
+ghost use Rattle.arrival_core.specs.Frames.{other, packet_at};
+ghost use Rattle.arrival_core.specs.declared.packets.Phase.TheVariants.{Looking, Carry, Opened, Second, Collecting, Ended};
+ghost use Rattle.box_handoff.specs.declared.views.Event.TheVariants.{Take, Open, Arrive, Collect, Leave};
+
+use crate::plays::{Arrives, Collects, HandTable, Leaves, Opens, TableSeat, Takes};
+use crate::slots::{SlotPacket, pack};
+use crate::words::{ARRIVED, CLAIMED, COLLECTED, OPENED, RETURNED, bit_of, is_set, mask};
+use crate::{Load, Packet, Side};
+
+/// The other side.
+pub fn across(side: Side) -> Side
+    ensures { result ≡ other side }
+{
+    match side {
+        Side::Left => Side::Right,
+        Side::Right => Side::Left,
+    }
+}
+
+/// The number of a node among those that have a word and two slots.
+pub fn place_of(load: &Load) -> usize
+    ensures is { result ≡ load.now.split }
+    ensures small { result < 2 ^ 32 }
+{
+    load.split as usize
+}
+
+/// The slot of a side of a node.
+pub fn slot_of(place: usize, side: Side) -> usize
+    requires { place < 2 ^ 60 }
+    ensures { result ≡ slot place side }
+{
+    2 * place + bit_of(0, side) as usize
+}
+
+/// Claims a batch. The answer is whether it was claimed before.
+pub fn take(table: &HandTable<'_>, seat: &mut TableSeat, batch: usize) -> bool
+    requires table { seat.old.table_id ≡ table.now.table_id }
+    requires words { let f = frame_in table.now.key in table.now.table_id.words ≡ f.batches +
+        (numbers_in table.now.key).count }
+    requires one { seat.old.me.0 ≡ one (given_in table.now.key) (mine seat.old.me) }
+    requires phase { (mine seat.old.me).phase ≡ Looking }
+    requires batch { (mine seat.old.me).next ≡ batch }
+    requires within { batch < (frame_in table.now.key).batches }
+    ensures table { (seat.new.table_id ≡ seat.old.table_id) × (seat.new.id ≡ seat.old.id) }
+    ensures did { Did (given_in table.now.key) seat.old.me seat.new.me (Take result) }
+    ensures out { seat.new.me.1 ≡ seat.old.me.1 }
+    ensures worker { let e = mine seat.old.me in worker_of (mine seat.new.me) ≡ resume (frame_in table.now.key)
+        (e.next + 1) (if result then [] else (frame_in table.now.key).batch e.next) (stepped e.tally) }
+{
+    is_set(table.fetch_or::<Takes>(seat, batch, mask(CLAIMED)), CLAIMED)
+}
+
+/// Opens a side of a node. The place of that side, which holds nothing, goes out to the seat.
+pub fn open(table: &HandTable<'_>, seat: &mut TableSeat, base: usize, place: usize, load: &Load)
+    requires table { seat.old.table_id ≡ table.now.table_id }
+    requires words { let f = frame_in table.now.key in (base ≡ f.batches)
+        × (table.now.table_id.words ≡ f.batches + (numbers_in table.now.key).count) }
+    requires one { seat.old.me.0 ≡ one (given_in table.now.key) (mine seat.old.me) }
+    requires phase { (mine seat.old.me).phase ≡ Carry load.now }
+    requires place { IsPlace (given_in table.now.key) place load.now.split }
+    requires room { table.now.table_id.words < 2 ^ 60 }
+    ensures table { (seat.new.table_id ≡ seat.old.table_id) × (seat.new.id ≡ seat.old.id) }
+    ensures did { Did (given_in table.now.key) seat.old.me seat.new.me Open }
+    ensures out { seat.new.me.1 ≡ (slot place load.now.side, blank) ∷ seat.old.me.1 }
+    ensures worker { worker_of (mine seat.new.me) ≡ in_phase (mine seat.old.me) (Opened load.now) }
+{
+    let bit = bit_of(OPENED, load.side);
+    table.fetch_or::<Opens>(seat, base + place, mask(bit));
+}
+
+/// Puts the packet into the place that is out with the seat.
+pub fn put(table: &HandTable<'_>, seat: &mut TableSeat, place: usize, load: &Load)
+    requires table { seat.old.table_id ≡ table.now.table_id }
+    requires out { seat.old.me.1 ≡ (slot place load.now.side, blank) ∷ [] }
+    requires room { place < 2 ^ 60 }
+    ensures table { (seat.new.table_id ≡ seat.old.table_id) × (seat.new.id ≡ seat.old.id) }
+    ensures out { seat.new.me ≡ (seat.old.me.0, (slot place load.now.side, packed load.now.side load.now.packet) ∷ []) }
+{
+    table.exchange(
+        seat,
+        slot_of(place, load.side),
+        pack(load.side, &load.packet),
+    );
+}
+
+/// Arrives at a node: the place goes back. The answer is whether the other side had arrived.
+pub fn arrive(
+    table: &HandTable<'_>,
+    seat: &mut TableSeat,
+    base: usize,
+    place: usize,
+    load: &Load,
+) -> bool
+    requires table { seat.old.table_id ≡ table.now.table_id }
+    requires words { let f = frame_in table.now.key in (base ≡ f.batches)
+        × (table.now.table_id.words ≡ f.batches + (numbers_in table.now.key).count) }
+    requires one { seat.old.me.0 ≡ one (given_in table.now.key) (mine seat.old.me) }
+    requires phase { (mine seat.old.me).phase ≡ Opened load.now }
+    requires place { IsPlace (given_in table.now.key) place load.now.split }
+    requires room { table.now.table_id.words < 2 ^ 60 }
+    requires out { seat.old.me.1 ≡ (slot place load.now.side, packed load.now.side load.now.packet) ∷ [] }
+    ensures table { (seat.new.table_id ≡ seat.old.table_id) × (seat.new.id ≡ seat.old.id) }
+    ensures did { Did (given_in table.now.key) seat.old.me seat.new.me (Arrive result) }
+    ensures out { seat.new.me.1 ≡ [] }
+    ensures second { result ≡ true → worker_of (mine seat.new.me) ≡ in_phase (mine seat.old.me) (Second load.now) }
+    ensures first { result ≡ false → worker_of (mine seat.new.me) ≡ resume (frame_in table.now.key)
+        (mine seat.old.me).next (mine seat.old.me).pending (stepped (mine seat.old.me).tally) }
+{
+    let bit = bit_of(ARRIVED, load.side);
+    let found = table.fetch_or::<Arrives>(seat, base + place, mask(bit));
+    is_set(found, bit_of(ARRIVED, across(load.side)))
+}
+
+/// Collects at a node: the other side's place goes out to the seat.
+pub fn collect(table: &HandTable<'_>, seat: &mut TableSeat, base: usize, place: usize, load: &Load)
+    requires table { seat.old.table_id ≡ table.now.table_id }
+    requires words { let f = frame_in table.now.key in (base ≡ f.batches)
+        × (table.now.table_id.words ≡ f.batches + (numbers_in table.now.key).count) }
+    requires one { seat.old.me.0 ≡ one (given_in table.now.key) (mine seat.old.me) }
+    requires phase { (mine seat.old.me).phase ≡ Second load.now }
+    requires place { IsPlace (given_in table.now.key) place load.now.split }
+    requires room { table.now.table_id.words < 2 ^ 60 }
+    ensures table { (seat.new.table_id ≡ seat.old.table_id) × (seat.new.id ≡ seat.old.id) }
+    ensures did { Did (given_in table.now.key) seat.old.me seat.new.me Collect }
+    ensures out { seat.new.me.1 ≡ (
+      slot place (other load.now.side),
+      packed (other load.now.side) (packet_at (frame_in table.now.key) load.now.split (other load.now.side)),
+    ) ∷
+        seat.old.me.1 }
+    ensures worker { worker_of (mine seat.new.me) ≡ in_phase (mine seat.old.me)
+        (Collecting load.now (packet_at (frame_in table.now.key) load.now.split (other load.now.side))) }
+{
+    let bit = bit_of(COLLECTED, across(load.side));
+    table.fetch_or::<Collects>(seat, base + place, mask(bit));
+}
+
+/// Reads what the place that is out with the seat keeps.
+pub fn look(table: &HandTable<'_>, seat: &mut TableSeat, slot: usize) -> SlotPacket
+    requires table { seat.old.table_id ≡ table.now.table_id }
+    requires out { (k : SlotPacket) × (seat.old.me.1 ≡ (slot, k) ∷ []) }
+    ensures table { (seat.new.table_id ≡ seat.old.table_id) × (seat.new.id ≡ seat.old.id) }
+    ensures same { seat.new.me ≡ seat.old.me }
+    ensures found { seat.old.me.1 ≡ (slot, result) ∷ [] }
+{
+    *seat.slot_mut(table, slot)
+}
+
+/// Leaves a node: the other side's place goes back, and the node is returned.
+pub fn leave(
+    table: &HandTable<'_>,
+    seat: &mut TableSeat,
+    base: usize,
+    place: usize,
+    load: &Load,
+    found: &Packet,
+)
+    requires table { seat.old.table_id ≡ table.now.table_id }
+    requires words { let f = frame_in table.now.key in (base ≡ f.batches)
+        × (table.now.table_id.words ≡ f.batches + (numbers_in table.now.key).count) }
+    requires one { seat.old.me.0 ≡ one (given_in table.now.key) (mine seat.old.me) }
+    requires phase { (mine seat.old.me).phase ≡ Collecting load.now found.now }
+    requires place { IsPlace (given_in table.now.key) place load.now.split }
+    requires room { table.now.table_id.words < 2 ^ 60 }
+    requires out { seat.old.me.1 ≡ (slot place (other load.now.side), packed (other load.now.side) found.now) ∷ [] }
+    ensures table { (seat.new.table_id ≡ seat.old.table_id) × (seat.new.id ≡ seat.old.id) }
+    ensures did { Did (given_in table.now.key) seat.old.me seat.new.me Leave }
+    ensures out { seat.new.me.1 ≡ [] }
+    ensures worker { worker_of (mine seat.new.me) ≡ go_up (frame_in table.now.key)
+        ((frame_in table.now.key).above_node load.now.split)
+        (join load.now.split load.now.side load.now.packet found.now) (worker_of (mine seat.old.me)) }
+{
+    table.fetch_or::<Leaves>(seat, base + place, mask(RETURNED));
+}

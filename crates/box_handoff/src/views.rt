@@ -1,0 +1,45 @@
+//! What a seat knows, and what a handoff is over. Of `Given`, `Entry` and `View` no value is made.
+
+use arrival_core::{Phase, Tally};
+use fixed_box::Box3;
+use morton_key::Key;
+use std::collections::LinkedList;
+
+/// What a worker did, with what the word showed before it.
+pub enum Event {
+    Take(bool),
+    Open,
+    Arrive(bool),
+    Collect,
+    Leave,
+}
+
+pub struct Given {
+    pub keys: LinkedList<Key>,
+    pub boxes: LinkedList<Box3>,
+    pub live: LinkedList<u32>,
+    pub seats: u64,
+}
+
+pub struct Entry {
+    pub number: u64,
+    pub next: u64,
+    pub pending: LinkedList<u32>,
+    pub phase: Phase,
+    pub tally: Tally,
+    pub events: LinkedList<Event>,
+}
+
+pub struct View {
+    pub given: Given,
+    pub entries: LinkedList<Entry>,
+}
+
+/// What a handoff keeps of what it was made of.
+#[derive(Drop)]
+pub struct About<'a> {
+    pub keys: &'a [Key],
+    pub boxes: &'a [Box3],
+    pub live: Vec<u32>,
+    pub seats: u32,
+}

@@ -1,0 +1,16 @@
+pub mod Coverings
+pub mod Meetings
+pub mod Rows
+pub mod AllLeaves
+pub mod Subtrees
+pub mod Makings
+pub mod TreeParts
+pub mod Shut
+pub mod Visiting
+pub mod LookedAt
+pub mod Scenes
+pub mod Mended
+pub mod Halving
+pub mod Moved
+pub mod Refits
+pub mod Listed

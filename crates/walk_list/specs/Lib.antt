@@ -1,0 +1,9 @@
+pub mod Leaves
+pub mod Covering
+pub mod Lists
+pub mod Moving
+pub mod Records
+pub mod Parts
+pub mod Stale
+pub mod Reaches
+pub mod Visits
