@@ -200,14 +200,15 @@ fn plain_work<R: Abort + AllocGlobal>(
     Ok(overlaps(alloc, &tree, now, around)?.work)
 }
 
-/// Compares a box query, a segment query and the root's box with the scan.
+/// Compares a box query, a segment query and the root's box with the scan, and answers the work of that box.
 fn compares<R: Threads + Sync + Abort + AllocGlobal>(
     rt: &R,
     world: &mut World,
     scan: &Scan,
+    built: &[Box3],
     p: Point,
     q: Point,
-) -> Result<(), Fail> {
+) -> Result<u64, Fail> {
     let around = Box3::of_corners(p, q);
     let found = asked(rt, world, &Ask::Overlap { around })?;
     let Reply::Overlaps(numbers) = found else {
@@ -225,6 +226,37 @@ fn compares<R: Threads + Sync + Abort + AllocGlobal>(
         panic!(rt; "the root is answered something else");
     };
     assert!(rt; Some(node.fit) == scan.around());
+    plain_work(rt, built, &scan.boxes(rt.alloc())?, &around)
+}
+
+/// Refits the world after some moves and builds it anew after others, and keeps the boxes of the last build.
+fn renews<R: Threads + Sync + Abort + AllocGlobal>(
+    rt: &R,
+    world: &mut World,
+    scan: &Scan,
+    turn: usize,
+    built: Vec<Box3>,
+) -> Result<Vec<Box3>, Fail> {
+    if turn % 17 == 5 {
+        let reply = asked(rt, world, &Ask::Refit)?;
+        assert!(rt; matches!(reply, Reply::Refitted));
+    }
+    if turn % 90 != 50 {
+        return Ok(built);
+    }
+    let reply = asked(rt, world, &Ask::Rebuild)?;
+    assert!(rt; matches!(reply, Reply::Rebuilt));
+    Ok(scan.boxes(rt.alloc())?)
+}
+
+/// Compares the last work.
+fn works<R: Threads + Sync + Abort + AllocGlobal>(
+    rt: &R,
+    world: &mut World,
+    last: u64,
+) -> Result<(), Fail> {
+    let reply = asked(rt, world, &Ask::Work)?;
+    assert!(rt; matches!(reply, Reply::WorkIs(work) if work == last));
     Ok(())
 }
 
@@ -232,42 +264,30 @@ fn compares<R: Threads + Sync + Abort + AllocGlobal>(
 fn a_thousand_moves_are_seen_by_the_next_answers(rt: HostRuntime) -> Result<(), Fail> {
     let alloc = rt.alloc();
     let mut scan = Scan::scattered(alloc, 2026)?;
-    let text = scan.text(alloc)?;
-    assert!(rt; text.len() <= 65_536);
-    let mesh = read_mesh(alloc, &text, 1).map_err(|_| "the mesh is refused")?;
+    let mesh = read_mesh(alloc, &scan.text(alloc)?, 1).map_err(|_| "the mesh is refused")?;
     let mut world = World::new(&rt, alloc, mesh, Build::Karras, 4, &OpenGate).map_err(
         |_| "no memory for the world",
     )?;
-    let mut seed = 7;
     let mut built = scan.boxes(alloc)?;
     let mut last = 0;
+    let mut seed = 7;
     for turn in 0..1000_usize {
-        moves(
-            &rt,
-            &mut world,
-            &mut scan,
-            below(seed, VERTICES),
-            place(jump(seed)),
-        )?;
+        let position = below(seed, VERTICES);
+        moves(&rt, &mut world, &mut scan, position, place(jump(seed)))?;
         seed = jump(jump(seed));
-        if turn % 17 == 5 {
-            let reply = asked(&rt, &mut world, &Ask::Refit)?;
-            assert!(rt; matches!(reply, Reply::Refitted));
-        }
-        if turn % 90 == 50 {
-            let reply = asked(&rt, &mut world, &Ask::Rebuild)?;
-            assert!(rt; matches!(reply, Reply::Rebuilt));
-            built = scan.boxes(alloc)?;
-        }
+        built = renews(&rt, &mut world, &scan, turn, built)?;
         if turn % 3 == 0 {
-            let (p, q) = (place(seed), place(jump(seed)));
-            compares(&rt, &mut world, &scan, p, q)?;
-            let around = Box3::of_corners(p, q);
-            last = plain_work(&rt, &built, &scan.boxes(alloc)?, &around)?;
+            last = compares(
+                &rt,
+                &mut world,
+                &scan,
+                &built,
+                place(seed),
+                place(jump(seed)),
+            )?;
         }
         if turn % 4 != 2 {
-            let reply = asked(&rt, &mut world, &Ask::Work)?;
-            assert!(rt; matches!(reply, Reply::WorkIs(work) if work == last));
+            works(&rt, &mut world, last)?;
         }
         seed = jump(jump(seed));
     }
