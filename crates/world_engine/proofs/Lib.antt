@@ -11,6 +11,7 @@ pub mod MovedVertices
 pub mod GroupCounts
 pub mod OpenedWords
 mod Examples
+mod ReportExamples
 pub mod NodeCounts
 pub mod SumSteps
 pub mod AskedInTurn
