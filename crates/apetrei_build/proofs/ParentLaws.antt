@@ -112,7 +112,8 @@ module _ (keys : List Key) (measures : List ℕ) (x : AreMeasures keys measures)
       (λ pos. omega (arith, near.smaller pos, before_is pos, behind_is near.follows))
 
   -- where it is not, and one stands before, a right child
-  pub right_told : 0 < a → (IsNearerBehind measures a b → ⊥) → above keys a b ≡ Some (record { split = a - 1; side = Right })
+  pub right_told : 0 < a → (IsNearerBehind measures a b → ⊥) →
+      above keys a b ≡ Some (record { split = a - 1; side = Right })
   right_told pos far =
       let law = nearer_is_above keys x.lawful a b r in
       law.before pos (λ more. elim (cases_lt (measure keys b (suc b)) (measure keys (a - 1) a)) [

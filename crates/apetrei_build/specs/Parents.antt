@@ -5,8 +5,8 @@ use Rattle.morton_key.specs.Measure.{measure}
 use Rattle.arrival_core.specs.declared.packets.Side.TheVariants.{Left, Right}
 use Rattle.arrival_core.specs.Settings.{above}
 
--- at the two ends of [a, b] the measures differ, and the greater names the parent: the one behind b a node with split b,
--- of which the range is the left child, the one before a a node with split a - 1; nothing is above the whole
+-- at the two ends of [a, b] the measures differ, and the greater names the parent: that behind b the node with split b,
+-- of which the range is the left child, that before a the node with split a - 1; nothing is above the whole
 pub record NearerIsAbove (keys : List Key) (a b : ℕ) : Type 0 where
   pub differ : 0 < a → suc b < length keys → measure keys (a - 1) a ≡ measure keys b (suc b) → ⊥
   pub behind : suc b < length keys → (0 < a → measure keys (a - 1) a < measure keys b (suc b)) →

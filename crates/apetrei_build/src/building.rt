@@ -18,8 +18,10 @@ use std::thread::Threads;
 /// The tree of the keys, fitted to the boxes by so many workers, each with a seat in a thread of its own where there is
 /// one: `boxes[t - 1]` is the box of triangle `t`.
 ///
-/// It is the tree of the plain build for every count of workers. The tally is the workers' added up; fewer than two keys
-/// make no node, and nobody works. After `Memory` the keys are dropped.
+/// It is the tree of the plain build for every count of workers, from 1 to 64. The tally is the workers' added up;
+/// fewer than two keys make no node, and nobody works. After `Memory` the keys are dropped.
+///
+/// The parent of a range is told by its nearer neighbour (Apetrei, 2014), and who comes second at a node fits it.
 pub fn build<R: Threads + Sync, G: Gate>(
     rt: &R,
     alloc: Global,

@@ -44,7 +44,11 @@ fn listed(alloc: Global, keys: &[Key]) -> Result<Vec<u8>, AllocError>
 }
 
 impl Deltas {
-    /// The way up in the tree of the keys. It takes memory for one byte a key.
+    /// The way up in the tree of the keys, of which there is at least one. It takes memory for one byte a key.
+    ///
+    /// Two neighbours are the nearer the longer the prefix that they share. The nearer neighbour of a range names its
+    /// parent: the one behind it the node that is parted at the range's end, the one before it the node that is parted
+    /// before its first position. The whole has no parent (Apetrei, 2014).
     pub fn new(alloc: Global, keys: &[Key]) -> Result<Deltas, Memory>
         requires lawful { IsLawful keys.now }
         requires some { 0 < length keys.now }

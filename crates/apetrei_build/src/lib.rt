@@ -1,5 +1,6 @@
-//! A build of the radix tree in one pass from the leaves up: which node stands above a range is told by what its two ends
-//! share with their neighbours, so no range is looked for and no node waits for another.
+//! A build of the radix tree in one pass from the leaves up.
+//!
+//! What the ends of a range share with their neighbours tells which node stands above it, so no range is looked for.
 #![tactic(auto)]
 
 mod building;
