@@ -19,7 +19,7 @@ import tempfile
 
 HERE = os.path.dirname(os.path.abspath(__file__))
 TOP = os.path.dirname(HERE)
-BELOW = ["outside", "fixed_box", "morton_key", "radix_tree"]
+BELOW = ["outside", "fixed_box", "morton_key", "radix_tree", "arrival_core", "box_handoff"]
 SIDES = [32, 64, 128, 256, 512]
 STEPS = ["order_joined", "spans", "fit_joined", "tree_joined"]
 

@@ -2,3 +2,5 @@ pub mod NearerNeighbour
 pub mod SpanLists
 pub mod PartLaws
 pub mod KeyLists
+pub mod LinkLaws
+pub mod FewKeys

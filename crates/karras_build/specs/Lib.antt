@@ -1,3 +1,4 @@
 pub mod Spans
 pub mod Reaching
 pub mod Parts
+pub mod Linking

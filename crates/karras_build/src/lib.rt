@@ -7,7 +7,9 @@
 mod building;
 mod finding;
 mod fitting;
+mod handing_up;
 mod inputs;
+mod links;
 mod ordering;
 mod ranges;
 mod searching;
@@ -16,6 +18,8 @@ mod ways;
 pub use building::tree_joined;
 pub use finding::{find, spans};
 pub use fitting::fit_joined;
+pub use handing_up::build;
+pub use links::{Links, links_of};
 pub use ordering::order_joined;
 pub use ranges::Span;
 

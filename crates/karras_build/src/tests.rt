@@ -1,11 +1,16 @@
 //! Spans worked by hand, and orders and fitted trees beside those of the plain build.
 
+ghost use Rattle.std.specs.Prelude.{◌<◌, length};
 ghost use Rattle.morton_key.specs.Keys.{IsLawful};
+ghost use Rattle.box_handoff.specs.Ends.{AreEnds};
+ghost use Rattle.karras_build.specs.Spans.{AreSpans};
 
-use crate::{Span, find, fit_joined, order_joined, spans, tree_joined};
+use crate::{Links, Span, build, find, fit_joined, links_of, order_joined, spans, tree_joined};
+use arrival_core::{Side, Up};
+use box_handoff::Ways;
 use fixed_box::{Box3, Point, Tri, box_of, in_world};
 use morton_key::{Key, order};
-use outside::Memory;
+use outside::{Memory, OpenGate};
 use radix_tree::{Node, Tree, plain};
 use std::alloc::{AllocError, Global};
 use std::process::Abort;
@@ -50,7 +55,53 @@ fn eight_keys_have_seven_spans(rt: HostRuntime) -> Result<(), Fail> {
     Ok(())
 }
 
-/// The trees of boxes in the world by each way of this crate, which answer one tree, and by `plain`.
+/// What stands above the node of a number.
+fn above(links: &Links, keys: &[Key], list: &[Span], number: usize) -> Option<Up>
+    requires lawful { IsLawful keys.now }
+    requires spans { AreSpans keys.now list.now }
+    requires ends { AreEnds keys.now links.now.ways.first.items links.now.ways.last.items }
+    requires within { number < length list.now }
+{
+    let span = list[number];
+    links.parent(span.first, span.last)
+}
+
+/// What stands above the right child of the node of a number.
+fn above_right(links: &Links, keys: &[Key], list: &[Span], number: usize) -> Option<Up>
+    requires lawful { IsLawful keys.now }
+    requires spans { AreSpans keys.now list.now }
+    requires ends { AreEnds keys.now links.now.ways.first.items links.now.ways.last.items }
+    requires within { number < length list.now }
+{
+    let span = list[number];
+    links.parent(span.split + 1, span.last)
+}
+
+#[test]
+fn eight_keys_have_these_parents(rt: HostRuntime) -> Result<(), Fail> {
+    let keys = eight_keys();
+    let list = spans(&rt, rt.alloc(), &keys)?;
+    let links = links_of(rt.alloc(), &list)?;
+    let of_right = Up {
+        split: 1,
+        side: Side::Right,
+    };
+    let of_left = Up {
+        split: 3,
+        side: Side::Left,
+    };
+    let of_leaf = Up {
+        split: 6,
+        side: Side::Right,
+    };
+    assert_eq!(rt; above(&links, &keys, &list, 2), Some(of_right));
+    assert_eq!(rt; above(&links, &keys, &list, 3), Some(of_left));
+    assert_eq!(rt; above_right(&links, &keys, &list, 5), Some(of_leaf));
+    assert_eq!(rt; above(&links, &keys, &list, 0), None);
+    Ok(())
+}
+
+/// The trees of boxes in the world by fork and join, which answer one tree, and by `plain`.
 fn both_trees<R: Threads + Sync + Abort>(
     rt: &R,
     alloc: Global,
@@ -66,6 +117,30 @@ fn both_trees<R: Threads + Sync + Abort>(
     assert!(rt; keys.as_slice() == slow.keys());
     let fast = tree_joined(rt, alloc, keys, boxes)?;
     assert!(rt; fast.nodes() == fitted.nodes());
+    Ok((fast, slow))
+}
+
+/// The tree of boxes in the world, fitted by three workers.
+fn handed_up<R: Threads + Sync + Abort>(
+    rt: &R,
+    alloc: Global,
+    boxes: &[Box3],
+) -> Result<Tree, Memory> {
+    assert!(rt; boxes.len() <= 100000);
+    assert!(rt; boxes.iter().all(|b| in_world(&b.lo) && in_world(&b.hi)));
+    let keys = order(alloc, boxes)?;
+    Ok(build(rt, alloc, keys, boxes, 3, &OpenGate)?.tree)
+}
+
+/// The same trees, where the workers answer it too.
+fn all_trees<R: Threads + Sync + Abort>(
+    rt: &R,
+    alloc: Global,
+    boxes: &[Box3],
+) -> Result<(Tree, Tree), Memory> {
+    let (fast, slow) = both_trees(rt, alloc, boxes)?;
+    let handed = handed_up(rt, alloc, boxes)?;
+    assert!(rt; handed.nodes() == fast.nodes());
     Ok((fast, slow))
 }
 
@@ -92,7 +167,7 @@ fn a_floor_and_a_ramp_have_the_tree_of_the_plain_build(rt: HostRuntime) -> Resul
         box_of(&Tri { a: b, b: e, c: f }),
         box_of(&Tri { a: b, b: f, c }),
     ];
-    let (fast, slow) = both_trees(&rt, rt.alloc(), &boxes)?;
+    let (fast, slow) = all_trees(&rt, rt.alloc(), &boxes)?;
     let expected = [
         node(0, 3, 1, a, f),
         node(0, 1, 0, a, c),
@@ -106,13 +181,13 @@ fn a_floor_and_a_ramp_have_the_tree_of_the_plain_build(rt: HostRuntime) -> Resul
 #[test]
 fn two_keys_have_one_node_and_fewer_have_none(rt: HostRuntime) -> Result<(), Fail> {
     let boxes = [box_of_point(at(7, 0, 0)), box_of_point(at(3, 5, 0))];
-    let (two, _) = both_trees(&rt, rt.alloc(), &boxes)?;
+    let (two, _) = all_trees(&rt, rt.alloc(), &boxes)?;
     let expected = [node(0, 1, 0, at(3, 0, 0), at(7, 5, 0))];
     assert_eq!(rt; two.nodes(), expected.as_slice());
-    let (one, _) = both_trees(&rt, rt.alloc(), &boxes[..1])?;
+    let (one, _) = all_trees(&rt, rt.alloc(), &boxes[..1])?;
     assert_eq!(rt; one.keys().len(), 1);
     assert_eq!(rt; one.nodes().len(), 0);
-    let (none, _) = both_trees(&rt, rt.alloc(), &[])?;
+    let (none, _) = all_trees(&rt, rt.alloc(), &[])?;
     assert_eq!(rt; none.keys().len(), 0);
     Ok(())
 }
@@ -140,7 +215,7 @@ fn many_equal_codes_have_the_tree_of_the_plain_build(rt: HostRuntime) -> Result<
     // in place, and by threads
     for count in [200, 100000] {
         let boxes = scattered(rt.alloc(), count)?;
-        let (fast, slow) = both_trees(&rt, rt.alloc(), &boxes)?;
+        let (fast, slow) = all_trees(&rt, rt.alloc(), &boxes)?;
         assert_eq!(rt; fast.nodes().len(), count - 1);
         assert!(rt; fast.nodes() == slow.nodes());
         assert!(rt; fast.keys() == slow.keys());
