@@ -2,14 +2,13 @@
 
 ghost use Rattle.std.specs.Prelude.{◌≡◌, ℕ, ◌+◌, ◌<◌, ◌≤◌, length, true, false, IfOk};
 ghost use Rattle.morton_key.specs.Keys.{IsLawful};
-ghost use Rattle.morton_key.specs.Measure.{measure};
 ghost use Rattle.radix_tree.specs.Ranges.{IsRange};
 ghost use Rattle.apetrei_build.specs.Parents.{NearerIsAbove};
 ghost use Rattle.apetrei_build.specs.Measures.{AreMeasures};
 ghost use Rattle.apetrei_build.specs.Neighbours.{IsNearerBehind};
 
 use box_handoff::{Side, Up, Ways};
-use morton_key::{Key, delta};
+use morton_key::{Key, common_prefix};
 use outside::Memory;
 use std::alloc::{AllocError, Global};
 
@@ -18,15 +17,6 @@ use std::alloc::{AllocError, Global};
 #[derive(Drop)]
 pub struct Deltas {
     pub(crate) measures: Vec<u8>,
-}
-
-/// The measure of the keys at a position and the next.
-fn shared(keys: &[Key], i: usize) -> u8
-    requires lawful { IsLawful keys.now }
-    requires next { i + 1 < length keys.now }
-    ensures { result ≡ measure keys.now i (i + 1) }
-{
-    delta(keys, i as i64, i as i64 + 1) as u8
 }
 
 /// The measures of all neighbours, in order.
@@ -38,7 +28,7 @@ fn listed(alloc: Global, keys: &[Key]) -> Result<Vec<u8>, AllocError>
     let count = keys.len() - 1;
     let mut measures = Vec::with_capacity(alloc, count)?;
     for i in 0..count {
-        measures.push(shared(keys, i))?;
+        measures.push(common_prefix(keys, i, i + 1) as u8)?;
     }
     Ok(measures)
 }

@@ -7,10 +7,11 @@ ghost use Rattle.radix_tree.specs.Ranges.{IsNode};
 ghost use Rattle.karras_build.specs.Spans.{IsSpan, AreSpans};
 
 use crate::Span;
-use crate::searching::{furthest, shared, split_of};
+use crate::searching::furthest;
 use crate::ways::Way;
-use morton_key::Key;
+use morton_key::{Key, common_prefix};
 use outside::Memory;
+use radix_tree::split_of;
 use rayon::prelude::*;
 use std::alloc::{AllocError, Global};
 use std::thread::Threads;
@@ -29,8 +30,8 @@ fn range_of(keys: &[Key], number: usize) -> (usize, usize)
     if number == 0 {
         return (0, keys.len() - 1);
     }
-    let before = shared(keys, number - 1, number);
-    let after = shared(keys, number, number + 1);
+    let before = common_prefix(keys, number - 1, number);
+    let after = common_prefix(keys, number, number + 1);
     if before < after {
         (number, number + furthest(keys, number, Way::Up, before))
     } else {

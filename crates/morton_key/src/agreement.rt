@@ -7,8 +7,10 @@ ghost use Rattle.morton_key.specs.Measure.{measure};
 
 use crate::{Key, POSITION_WIDTH, WIDTH};
 
-/// The measure of two positions of the list.
-fn agreement(keys: &[Key], i: usize, j: usize) -> u32
+/// The length of the prefix that two keys share, in bits, where both are positions of the list.
+///
+/// It is what `delta` answers for them, and at most `WIDTH + POSITION_WIDTH`. It takes no memory.
+pub fn common_prefix(keys: &[Key], i: usize, j: usize) -> u32
     requires lawful { IsLawful keys.now }
     requires first { i < length keys.now }
     requires second { j < length keys.now }
@@ -40,5 +42,5 @@ pub fn delta(keys: &[Key], i: i64, j: i64) -> i32
     if j < 0 || j >= keys.len() as i64 {
         return -1;
     }
-    agreement(keys, i as usize, j as usize) as i32
+    common_prefix(keys, i as usize, j as usize) as i32
 }

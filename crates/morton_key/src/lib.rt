@@ -8,7 +8,7 @@ mod interleaving;
 mod keys;
 mod ordering;
 
-pub use agreement::delta;
+pub use agreement::{common_prefix, delta};
 pub use interleaving::code;
 pub use keys::{Key, LEVELS, POSITION_WIDTH, WIDTH};
 pub use ordering::{order, unsorted};

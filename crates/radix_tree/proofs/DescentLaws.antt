@@ -10,7 +10,10 @@ use Rattle.radix_tree.specs.Table.{Contents, node_at, IsTable}
 use Rattle.radix_tree.specs.Filling.{IsChild, span_of}
 use Rattle.radix_tree.proofs.NumberLaws.{proper, one_range}
 use Rattle.radix_tree.proofs.NodeLaws.{node_within, node_below, split_low, split_high, left_node, right_node, root_node}
-use Rattle.radix_tree.proofs.HeightLaws.{height_of_one, height_of_fork, height_most}
+use Rattle.radix_tree.proofs.HeightLaws.{height_of_one, height_le_span, height_of_fork, height_most}
+
+max_zero : (h : ℕ) → max 0 h ≡ h
+max_zero h = omega arith
 
 module _ (t : Contents) (table : IsTable t) where
   -- the node of a number has the range and the split of that number
@@ -82,35 +85,52 @@ module _ (t : Contents) (table : IsTable t) where
   span_from_range (Leaf p) a b (e, f) = omega arith
   span_from_range (Inner i) a b d = let r = row_range i a b d in omega (arith, r.1, r.2)
 
-  -- a leaf is no inner node high
-  pub leaf_height : (p a b : ℕ) → HasRange t.keys (Leaf p) a b → 0 ≡ height_of (shape_in t.keys a b)
-  leaf_height p a b (e, f) = sym (height_of_one t.keys a) ∙ ap (λ z. height_of (shape_in t.keys a z)) (sym e ∙ f)
+  -- a leaf is no inner node high, so it beats nothing
+  pub leaf_over : (p least a b : ℕ) → HasRange t.keys (Leaf p) a b →
+      least ≡ max least (height_of (shape_in t.keys a b))
+  leaf_over p least a b (e, f) =
+      let none : height_of (shape_in t.keys a b) ≡ 0 =
+      ap (λ z. height_of (shape_in t.keys a z)) (sym f ∙ e) ∙ height_of_one t.keys a in
+      omega (arith, none)
 
-  -- the height of a node, from those of its children
-  pub node_height : (k l r m : ℕ) → k < length t.nodes → m ≡ max l r →
-      l ≡ height_of (shape_in t.keys (node_at t.nodes k).first (node_at t.nodes k).split) →
-      r ≡ height_of (shape_in t.keys ((node_at t.nodes k).split + 1) (node_at t.nodes k).last) →
-      (a b : ℕ) → IsNode t.keys k a b → 1 + m ≡ height_of (shape_in t.keys a b)
-  node_height k l r m lt most e f a b d =
+  -- nor does a subtree of few leaves
+  pub few_over : (k least a b : ℕ) → (node_at t.nodes k).last - (node_at t.nodes k).first ≤ least →
+      IsNode t.keys k a b → least ≡ max least (height_of (shape_in t.keys a b))
+  few_over k least a b few d =
+      let same = row_range k a b d in
+      omega (arith, few, same.1, same.2, height_le_span t.keys a b)
+
+  -- a node is one higher than its higher child
+  node_height : (k : ℕ) → k < length t.nodes → (a b : ℕ) → IsNode t.keys k a b →
+      height_of (shape_in t.keys a b)
+      ≡ 1 + max (height_of (shape_in t.keys (node_at t.nodes k).first (node_at t.nodes k).split))
+      (height_of (shape_in t.keys ((node_at t.nodes k).split + 1) (node_at t.nodes k).last))
+  node_height k lt a b d =
       let same = row_range k a b d in
       let x = node_at t.nodes k in
-      let at : 1 + max l r ≡ height_of (shape_in t.keys x.first x.last) =
-      ap (λ z. 1 + max z r) e ∙ (ap (λ z. 1 + max (height_of (shape_in t.keys x.first x.split)) z) f
-      ∙ sym (height_of_fork t.keys table.lawful x.first x.last x.split (proper t.keys table.lawful (range_at k lt))
-      (last_at k lt) (split_at k lt))) in
-      ap (λ z. 1 + z) most
-      ∙ (at ∙ (ap (λ z. height_of (shape_in t.keys z x.last)) same.1
-      ∙ ap (λ z. height_of (shape_in t.keys a z)) same.2))
+      ap (λ z. height_of (shape_in t.keys z b)) (sym same.1)
+      ∙ (ap (λ z. height_of (shape_in t.keys x.first z)) (sym same.2)
+      ∙ height_of_fork t.keys table.lawful x.first x.last x.split (proper t.keys table.lawful (range_at k lt))
+      (last_at k lt) (split_at k lt))
+
+  -- so what is over its children, each by one less, is over the node
+  pub node_over : (k least below l r : ℕ) → k < length t.nodes → below ≡ least - 1 →
+      l ≡ max below (height_of (shape_in t.keys (node_at t.nodes k).first (node_at t.nodes k).split)) →
+      r ≡ max l (height_of (shape_in t.keys ((node_at t.nodes k).split + 1) (node_at t.nodes k).last)) →
+      (a b : ℕ) → IsNode t.keys k a b → 1 + r ≡ max least (height_of (shape_in t.keys a b))
+  node_over k least below l r lt less over_left over_right a b d =
+      omega (arith, less, over_left, over_right, node_height k lt a b d)
 
   -- and its bound
-  pub node_height_most : (k h : ℕ) → k < length t.nodes →
-      ((a b : ℕ) → IsNode t.keys k a b → h ≡ height_of (shape_in t.keys a b)) → h ≤ TAG_WIDTH
-  node_height_most k h lt value =
+  pub over_most : (k least h : ℕ) → k < length t.nodes → least ≤ TAG_WIDTH →
+      ((a b : ℕ) → IsNode t.keys k a b → h ≡ max least (height_of (shape_in t.keys a b))) → h ≤ TAG_WIDTH
+  over_most k least h lt most value =
       let x = node_at t.nodes k in
       let d = range_at k lt in
       let order = proper t.keys table.lawful d in
       omega (
         arith,
+        most,
         value x.first x.last d,
         height_most t.keys table.lawful x.first x.last (omega arith) (last_at k lt),
       )
@@ -124,8 +144,9 @@ module _ (t : Contents) (table : IsTable t) where
 
   -- else it is as high as the root
   pub root_height : (h : ℕ) → 0 < length t.nodes →
-      ((a b : ℕ) → IsNode t.keys 0 a b → h ≡ height_of (shape_in t.keys a b)) →
+      ((a b : ℕ) → IsNode t.keys 0 a b → h ≡ max 0 (height_of (shape_in t.keys a b))) →
       h ≡ height_of (shape_of t.keys)
   unfolding shape_of
   root_height h some value =
       value 0 (length t.keys - 1) (root_node t.keys table.lawful (length t.keys - 1) refl (omega (arith, table.count)))
+      ∙ max_zero (height_of (shape_in t.keys 0 (length t.keys - 1)))

@@ -1,10 +1,13 @@
-use Rattle.std.proofs.Common.{◌≡◌, ℕ, suc, ◌+◌, ◌-◌, ◌<◌, ◌≤◌, max, refl, sym, ap, ◌∙◌, arith, List, length}
+use Rattle.std.proofs.Common.{◌≡◌, ℕ, suc, zero, ◌+◌, ◌-◌, ◌<◌, ◌≤◌, max, refl, sym, ap, ◌∙◌, arith, List, length}
+use Rattle.std.specs.Prelude.{◌==◌}
+use Rattle.std.proofs.lemmas.Bool.{cond_both}
 use Rattle.morton_key.specs.declared.keys.Key.{Key}
 use Rattle.morton_key.specs.Keys.{IsLawful}
 use Rattle.morton_key.proofs.Tags.{TAG_WIDTH}
 use Rattle.morton_key.proofs.GapLaws.{gap_most}
 use Rattle.radix_tree.specs.Split.{split}
 use Rattle.radix_tree.specs.Shape.{grown, shape_in, height_of}
+use Rattle.radix_tree.specs.Shape.Shape.{leaf, fork}
 use Rattle.radix_tree.proofs.SplitLaws.{split_laws}
 use Rattle.radix_tree.proofs.ShapeLaws.{grown-fork, grown_same, height_le}
 
@@ -12,6 +15,22 @@ use Rattle.radix_tree.proofs.ShapeLaws.{grown-fork, grown_same, height_le}
 pub height_of_one : (keys : List Key) (a : ℕ) → height_of (shape_in keys a a) ≡ 0
 unfolding height_of shape_in grown
 height_of_one keys a = let none : a - a ≡ 0 = omega arith in ap (λ f. height_of (grown keys f a a)) none
+
+-- a tree is no higher than it is let grow
+grown_height : (keys : List Key) (f a b : ℕ) → height_of (grown keys f a b) ≤ f
+unfolding height_of grown
+grown_height keys zero a b = omega arith
+grown_height keys (suc f) a b =
+    cond_both (a == b) (leaf a)
+    (fork a b (split keys a b) (grown keys f a (split keys a b)) (grown keys f (suc (split keys a b)) b))
+    (λ x. height_of x ≤ suc f)
+    (λ e. omega arith)
+    (λ e. omega (arith, grown_height keys f a (split keys a b), grown_height keys f (suc (split keys a b)) b))
+
+-- so it is at least one leaf larger than it is high
+pub height_le_span : (keys : List Key) (a b : ℕ) → height_of (shape_in keys a b) ≤ b - a
+unfolding shape_in
+height_le_span keys a b = grown_height keys (b - a) a b
 
 module _ (keys : List Key) (ok : IsLawful keys) where
   height_at_split : (a b : ℕ) → a < b → b < length keys →

@@ -1,7 +1,7 @@
 //! The way down a tree: what stands below a node, and how far down it goes.
 //! A child's number is read off its parent's split, so nothing is searched.
 
-ghost use Rattle.std.specs.Prelude.{◌≡◌, ℕ, ◌+◌, ◌<◌, ◌≤◌, length};
+ghost use Rattle.std.specs.Prelude.{◌≡◌, ℕ, ◌+◌, ◌<◌, ◌≤◌, length, max};
 ghost use Rattle.radix_tree.specs.Ranges.{HasRange};
 ghost use Rattle.radix_tree.specs.Shape.{shape_in, shape_of, height_of};
 ghost use Rattle.radix_tree.specs.Table.{node_at, IsTable};
@@ -45,26 +45,33 @@ pub fn right(t: &Tree, number: u32) -> Child
     }
 }
 
-/// The height of the tree below a child.
-fn height_from(t: &Tree, child: Child) -> u32
+/// The greater of `least` and the height of the tree below a child.
+///
+/// A subtree is at least one leaf larger than it is high, so one of few leaves is passed over.
+fn height_over(t: &Tree, child: Child, least: u32) -> u32
     requires table { IsTable t.now }
     requires child { IsChild t.now child }
-    ensures value { (a b : ℕ) → HasRange t.now.keys child a b → result ≡ height_of (shape_in t.now.keys a b) }
+    requires least { least ≤ WIDTH + POSITION_WIDTH }
+    ensures value { (a b : ℕ) → HasRange t.now.keys child a b → result ≡ max least (height_of (shape_in t.now.keys a b)) }
     ensures most { result ≤ WIDTH + POSITION_WIDTH }
 {
     match child {
-        Child::Leaf(_) => 0,
+        Child::Leaf(_) => least,
         Child::Inner(number) => {
-            let below_left = height_from(t, left(t, number));
-            let below_right = height_from(t, right(t, number));
-            1 + below_left.max(below_right)
+            let node = node_of(t, number);
+            if node.last - node.first <= least {
+                return least;
+            }
+            let over_left = height_over(t, left(t, number), least.saturating_sub(1));
+            1 + height_over(t, right(t, number), over_left)
         }
     }
 }
 
 /// The greatest count of inner nodes on a way from the root to a leaf; 0 where there is no inner node.
 ///
-/// It is at most `WIDTH + POSITION_WIDTH`, and so is the depth of its recursion but for one call. It takes no memory.
+/// It is at most `WIDTH + POSITION_WIDTH`, and so is the depth of its recursion but for one call. Subtrees of so few
+/// leaves that they cannot be the highest are passed over. It takes no memory.
 pub fn height(t: &Tree) -> u32
     ensures value { result ≡ height_of (shape_of t.now.keys) }
     ensures most { result ≤ WIDTH + POSITION_WIDTH }
@@ -72,6 +79,6 @@ pub fn height(t: &Tree) -> u32
     if t.nodes().is_empty() {
         0
     } else {
-        height_from(t, Child::Inner(0))
+        height_over(t, Child::Inner(0), 0)
     }
 }

@@ -13,6 +13,7 @@ mod trees;
 pub use building::plain;
 pub use descent::{height, left, right};
 pub use nodes::{Child, Node};
+pub use splitting::split_of;
 pub use trees::Tree;
 
 #[cfg(test)]

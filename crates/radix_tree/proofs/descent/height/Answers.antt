@@ -11,5 +11,5 @@ returns-then-is_empty-clause-value c =
 pub returns-else-is_empty-clause-value : goal.returns-else-is_empty-clause-value
 returns-else-is_empty-clause-value c =
     let some = eqb-false (length c.nodes.result.now) 0 (sym c.is_empty.ensures ∙ c.if-is_empty.false) in
-    root_height c.args.t.now c.nodes.ensures.table c.height_from.result
-    (omega (arith, some, ap length c.nodes.ensures.nodes)) c.height_from.ensures.value
+    root_height c.args.t.now c.nodes.ensures.table c.height_over.result
+    (omega (arith, some, ap length c.nodes.ensures.nodes)) c.height_over.ensures.value

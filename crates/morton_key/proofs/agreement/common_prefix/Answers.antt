@@ -1,7 +1,7 @@
 use Rattle.std.proofs.Common.{arith}
 use Rattle.morton_key.specs.Keys.{code_at, key_at}
 use Rattle.morton_key.proofs.KeyLaws.{measure_same_code, measure_other_code}
-use Rattle.morton_key.proofs.agreement.agreement.Goals as goal
+use Rattle.morton_key.proofs.agreement.common_prefix.Goals as goal
 
 pub overflow_sub-result-else-one-other-2 : goal.overflow_sub-result-else-one-other-2
 unfolding code_at key_at
