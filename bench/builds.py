@@ -1,6 +1,6 @@
 #!/usr/bin/env python3
 """Times each step of a build of bumpy floors of 2,048 to 524,288 triangles, in one program: `order` (codes and keys)
-and in its place `order_joined`; `plain`, and in its place `spans` and `fit_joined`, or `tree_joined` alone. The orders
+and in its place `order_by_threads`; `plain`, and in its place `spans` and `fit_joined`, or `tree_by_threads` alone. The orders
 and the trees are compared. The least of nine rounds is printed, in microseconds.
 
 Usage, at the top of the repository: python3 bench/builds.py [HALF:LIST:SORT ..]
@@ -21,7 +21,7 @@ HERE = os.path.dirname(os.path.abspath(__file__))
 TOP = os.path.dirname(HERE)
 BELOW = ["outside", "fixed_box", "morton_key", "radix_tree", "arrival_core", "box_handoff"]
 SIDES = [32, 64, 128, 256, 512]
-STEPS = ["order_joined", "spans", "fit_joined", "tree_joined"]
+STEPS = ["order_by_threads", "spans", "fit_joined", "tree_by_threads"]
 
 HEAD = """//! Times the builds of bumpy floors.
 #![tactic(auto)]
@@ -83,7 +83,7 @@ fn by_NAME<R: Clock + Abort + Threads + Sync>(rt: &R, alloc: Global, boxes: &[Bo
     assert!(rt; boxes.len() <= 1000000);
     assert!(rt; boxes.iter().all(|b| in_world(&b.lo) && in_world(&b.hi)));
     let start = Instant::now(rt)?;
-    let keys = NAME::order_joined(rt, alloc, boxes)?;
+    let keys = NAME::order_by_threads(rt, alloc, boxes)?;
     let ordered = since(rt, start)?;
     assert!(rt; keys.as_slice() == slow.keys());
     let start = Instant::now(rt)?;
@@ -97,7 +97,7 @@ fn by_NAME<R: Clock + Abort + Threads + Sync>(rt: &R, alloc: Global, boxes: &[Bo
     drop(t);
     let keys = order(alloc, boxes)?;
     let start = Instant::now(rt)?;
-    let t = NAME::tree_joined(rt, alloc, keys, boxes)?;
+    let t = NAME::tree_by_threads(rt, alloc, keys, boxes)?;
     let made = since(rt, start)?;
     assert!(rt; t.nodes() == slow.nodes());
     Ok((ordered, found, fitted, made))

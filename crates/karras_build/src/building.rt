@@ -44,7 +44,7 @@ fn prepare<R: Threads + Sync>(
 ///
 /// It is what `fit_joined` answers for the spans of the keys. A long list of nodes is made while its spans are found. It
 /// takes memory for a list of each, and gives that of the spans back. After `Memory` the keys are dropped.
-pub fn tree_joined<R: Threads + Sync>(
+pub fn tree_by_threads<R: Threads + Sync>(
     rt: &R,
     alloc: Global,
     keys: Vec<Key>,

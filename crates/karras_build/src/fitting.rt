@@ -10,9 +10,11 @@ ghost use Rattle.radix_tree.specs.Table.{IsTable};
 ghost use Rattle.radix_tree.specs.Fit.{box_of_triangle, boxes_in, IsFitted, table_of};
 ghost use Rattle.karras_build.specs.Spans.{AreSpans};
 ghost use Rattle.karras_build.specs.Parts.{AreInputs, HasRows, IsPart};
+ghost use Rattle.karras_build.specs.Halves.{IsLeftHalf, IsRightHalf, AreHalves};
+ghost use Rattle.karras_build.specs.Halves.{IsLeftFitted, IsRightFitted, AreHalvesFitted};
 
 use crate::Span;
-use crate::inputs::Inputs;
+use crate::inputs::{Cut, Inputs};
 use fixed_box::{Box3, union};
 use morton_key::Key;
 use outside::Memory;
@@ -51,7 +53,7 @@ fn fit_left<R: Threads + Sync>(
         return box_at(inputs, first);
     };
     let split = inputs.spans[last].split as usize;
-    let fit = fit_below(rt, inputs, first, split, last, below);
+    let fit = fit_below(rt, inputs, Cut { first, split, last }, below);
     *own = Node {
         first: first as u32,
         last: last as u32,
@@ -80,7 +82,7 @@ fn fit_right<R: Threads + Sync>(
         return box_at(inputs, first);
     };
     let split = inputs.spans[first].split as usize;
-    let fit = fit_below(rt, inputs, first, split, last, below);
+    let fit = fit_below(rt, inputs, Cut { first, split, last }, below);
     *own = Node {
         first: first as u32,
         last: last as u32,
@@ -93,23 +95,15 @@ fn fit_right<R: Threads + Sync>(
 /// Fits all below a node, and answers the box round the node's range.
 #[inline(always)]
 #[cycle(parts)]
-fn fit_below<R: Threads + Sync>(
-    rt: &R,
-    inputs: &Inputs<'_>,
-    first: usize,
-    split: usize,
-    last: usize,
-    below: &mut [Node],
-) -> Box3
+fn fit_below<R: Threads + Sync>(rt: &R, inputs: &Inputs<'_>, cut: Cut, below: &mut [Node]) -> Box3
     requires inputs { AreInputs inputs.now }
-    requires left { IsPart inputs.now.keys.now split first split (split - first) }
-    requires right { IsPart inputs.now.keys.now (split + 1) (split + 1) last (last - (split + 1)) }
-    requires room { length below.old ≡ last - first - 1 }
-    ensures rows { HasRows inputs.now (first + 1) below.new }
-    ensures fit { IsLeastBox (boxes_in inputs.now.boxes.now inputs.now.keys.now first last) result }
+    requires halves { AreHalves inputs.now.keys.now cut (cut.split - cut.first) (cut.last - (cut.split + 1)) }
+    requires room { length below.old ≡ cut.last - cut.first - 1 }
+    ensures rows { HasRows inputs.now (cut.first + 1) below.new }
+    ensures fit { IsLeastBox (boxes_in inputs.now.boxes.now inputs.now.keys.now cut.first cut.last) result }
 {
-    let (left, right) = below.split_at_mut(split - first);
-    let (low, high) = fit_halves(rt, inputs, first, split, last, left, right);
+    let (left, right) = below.split_at_mut(cut.split - cut.first);
+    let (low, high) = fit_halves(rt, inputs, cut, left, right);
     union(&low, &high)
 }
 
@@ -119,25 +113,19 @@ fn fit_below<R: Threads + Sync>(
 fn fit_halves<R: Threads + Sync>(
     rt: &R,
     inputs: &Inputs<'_>,
-    first: usize,
-    split: usize,
-    last: usize,
+    cut: Cut,
     left: &mut [Node],
     right: &mut [Node],
 ) -> (Box3, Box3)
     requires inputs { AreInputs inputs.now }
-    requires left { IsPart inputs.now.keys.now split first split (length left.old) }
-    requires right { IsPart inputs.now.keys.now (split + 1) (split + 1) last (length right.old) }
-    ensures left_rows { HasRows inputs.now (first + 1) left.new }
-    ensures right_rows { HasRows inputs.now (split + 1) right.new }
-    ensures left_fit { IsLeastBox (boxes_in inputs.now.boxes.now inputs.now.keys.now first split) result.0 }
-    ensures right_fit { IsLeastBox (boxes_in inputs.now.boxes.now inputs.now.keys.now (split + 1) last) result.1 }
+    requires halves { AreHalves inputs.now.keys.now cut (length left.old) (length right.old) }
+    ensures { AreHalvesFitted inputs.now cut left.new right.new result.0 result.1 }
 {
     if left.len().min(right.len()) >= LEAST_HALF {
-        return fit_joined_halves(rt, inputs, first, split, last, left, right);
+        return fit_joined_halves(rt, inputs, cut, left, right);
     }
-    let low = fit_left(rt, inputs, first, split, left);
-    let high = fit_right(rt, inputs, split + 1, last, right);
+    let low = fit_left(rt, inputs, cut.first, cut.split, left);
+    let high = fit_right(rt, inputs, cut.split + 1, cut.last, right);
     (low, high)
 }
 
@@ -147,31 +135,22 @@ fn fit_halves<R: Threads + Sync>(
 fn fit_joined_halves<R: Threads + Sync>(
     rt: &R,
     inputs: &Inputs<'_>,
-    first: usize,
-    split: usize,
-    last: usize,
+    cut: Cut,
     left: &mut [Node],
     right: &mut [Node],
 ) -> (Box3, Box3)
     requires inputs { AreInputs inputs.now }
-    requires left { IsPart inputs.now.keys.now split first split (length left.old) }
-    requires right { IsPart inputs.now.keys.now (split + 1) (split + 1) last (length right.old) }
-    ensures left_rows { HasRows inputs.now (first + 1) left.new }
-    ensures right_rows { HasRows inputs.now (split + 1) right.new }
-    ensures left_fit { IsLeastBox (boxes_in inputs.now.boxes.now inputs.now.keys.now first split) result.0 }
-    ensures right_fit { IsLeastBox (boxes_in inputs.now.boxes.now inputs.now.keys.now (split + 1) last) result.1 }
+    requires halves { AreHalves inputs.now.keys.now cut (length left.old) (length right.old) }
+    ensures { AreHalvesFitted inputs.now cut left.new right.new result.0 result.1 }
 {
-    let next = split + 1;
     let mut low = || -> Box3
-        requires { IsSync R.row × AreInputs inputs.now × IsPart inputs.now.keys.now split first split (length left.now) }
-        ensures { HasRows inputs.entry.now (first + 1) left.exit.now
-            × IsLeastBox (boxes_in inputs.entry.now.boxes.now inputs.entry.now.keys.now first split) result }
-    { fit_left(rt, inputs, first, split, left) };
+        requires { IsSync R.row × AreInputs inputs.now × IsLeftHalf inputs.now.keys.now cut.first cut.split (length left.now) }
+        ensures { IsLeftFitted inputs.entry.now cut.first cut.split left.exit.now result }
+    { fit_left(rt, inputs, cut.first, cut.split, left) };
     let mut high = || -> Box3
-        requires { IsSync R.row × AreInputs inputs.now × IsPart inputs.now.keys.now next next last (length right.now) }
-        ensures { HasRows inputs.entry.now next right.exit.now
-            × IsLeastBox (boxes_in inputs.entry.now.boxes.now inputs.entry.now.keys.now next last) result }
-    { fit_right(rt, inputs, next, last, right) };
+        requires { IsSync R.row × AreInputs inputs.now × IsRightHalf inputs.now.keys.now cut.split cut.last (length right.now) }
+        ensures { IsRightFitted inputs.entry.now cut.split cut.last right.exit.now result }
+    { fit_right(rt, inputs, cut.split + 1, cut.last, right) };
     join_mut(rt, &mut low, &mut high)
 }
 

@@ -15,12 +15,12 @@ mod ranges;
 mod searching;
 mod ways;
 
-pub use building::tree_joined;
+pub use building::tree_by_threads;
 pub use finding::{find, spans};
 pub use fitting::fit_joined;
 pub use handing_up::build;
 pub use links::{Links, links_of};
-pub use ordering::order_joined;
+pub use ordering::order_by_threads;
 pub use ranges::Span;
 
 #[cfg(test)]

@@ -5,7 +5,9 @@ ghost use Rattle.morton_key.specs.Keys.{IsLawful};
 ghost use Rattle.box_handoff.specs.Ends.{AreEnds};
 ghost use Rattle.karras_build.specs.Spans.{AreSpans};
 
-use crate::{Links, Span, build, find, fit_joined, links_of, order_joined, spans, tree_joined};
+use crate::{
+    Links, Span, build, find, fit_joined, links_of, order_by_threads, spans, tree_by_threads,
+};
 use arrival_core::{Side, Up};
 use box_handoff::Ways;
 use fixed_box::{Box3, Point, Tri, box_of, in_world};
@@ -113,9 +115,9 @@ fn both_trees<R: Threads + Sync + Abort>(
     let keys = order(alloc, boxes)?;
     let list = spans(rt, alloc, &keys)?;
     let fitted = fit_joined(rt, alloc, keys, &list, boxes)?;
-    let keys = order_joined(rt, alloc, boxes)?;
+    let keys = order_by_threads(rt, alloc, boxes)?;
     assert!(rt; keys.as_slice() == slow.keys());
-    let fast = tree_joined(rt, alloc, keys, boxes)?;
+    let fast = tree_by_threads(rt, alloc, keys, boxes)?;
     assert!(rt; fast.nodes() == fitted.nodes());
     Ok((fast, slow))
 }

@@ -28,7 +28,7 @@ pub use fault::{MeshFault, Why};
 pub use height_field::{FIELD_CORNER, FIELD_SPACING, grid_mesh};
 pub use limits::{LEAST_GRID, MOST_BYTES, MOST_FACES, MOST_GRID, MOST_POINTS};
 pub use mesh::Mesh;
-pub use read::{read_mesh, read_mesh_joined};
+pub use read::{read_mesh, read_mesh_by_threads};
 
 #[cfg(test)]
 mod tests;

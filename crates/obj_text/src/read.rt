@@ -54,7 +54,7 @@ fn read_long<R: Threads + Sync>(rt: &R, alloc: Global, bytes: &[u8], unit: u32) 
 ///
 /// A long text with a fault is read twice, and takes as long as by `read_mesh` and a part of that more. So is one whose
 /// parts want more memory than there is.
-pub fn read_mesh_joined<R: Threads + Sync>(
+pub fn read_mesh_by_threads<R: Threads + Sync>(
     rt: &R,
     alloc: Global,
     bytes: &[u8],

@@ -279,14 +279,14 @@ fn the_line_past_a_limit_is_named(rt: HostRuntime) -> Result<(), Fail> {
     Ok(())
 }
 
-/// `read_mesh_joined`, where it may be called.
+/// `read_mesh_by_threads`, where it may be called.
 fn read_joined<R: Threads + Sync + Abort>(
     rt: &R,
     alloc: Global,
     text: &[u8],
 ) -> Result<Mesh, MeshFault> {
     assert!(rt; text.len() <= MOST_BYTES, "the text is too long");
-    read_mesh_joined(rt, alloc, text, 1)
+    read_mesh_by_threads(rt, alloc, text, 1)
 }
 
 /// Three vertices and four triangles in ten lines, with references from here, joins, and two names.

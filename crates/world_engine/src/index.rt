@@ -15,7 +15,7 @@ use crate::last_work::LastWork;
 use crate::marks::Marks;
 use crate::mending::fit_moved;
 use fixed_box::{Box3, Point};
-use karras_build::{order_joined, tree_joined};
+use karras_build::{order_by_threads, tree_by_threads};
 use obj_text::{Face, MOST_FACES};
 use outside::Memory;
 use radix_tree::Tree;
@@ -60,8 +60,8 @@ impl Index {
         ensures work { IfOk result (λ index. last_work index ≡ 0) }
     {
         let boxes = boxes_of(rt, alloc, points, faces)?;
-        let keys = order_joined(rt, alloc, &boxes)?;
-        let tree = tree_joined(rt, alloc, keys, &boxes)?;
+        let keys = order_by_threads(rt, alloc, &boxes)?;
+        let tree = tree_by_threads(rt, alloc, keys, &boxes)?;
         let list = flatten(alloc, &tree, &boxes)?;
         let marks = Marks::none(alloc, points.len())?;
         Ok(Index {
@@ -154,8 +154,8 @@ impl Index {
         ensures work { last_work self.new ≡ last_work self.old }
     {
         self.fit_boxes(alloc, points, faces)?;
-        let keys = order_joined(rt, alloc, &self.boxes)?;
-        let tree = tree_joined(rt, alloc, keys, &self.boxes)?;
+        let keys = order_by_threads(rt, alloc, &self.boxes)?;
+        let tree = tree_by_threads(rt, alloc, keys, &self.boxes)?;
         self.list = flatten(alloc, &tree, &self.boxes)?;
         self.tree = tree;
         self.marks.clear();

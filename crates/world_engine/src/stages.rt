@@ -17,7 +17,7 @@ use crate::status::Status;
 use crate::world::World;
 use command_line::{MOST_WORKERS, Plan};
 use fixed_box::UNIT_MAX;
-use obj_text::{MOST_BYTES, Mesh, MeshFault, Why, read_mesh_joined};
+use obj_text::{MOST_BYTES, Mesh, MeshFault, Why, read_mesh_by_threads};
 use outside::{Gate, Memory, Sink, Source};
 use std::alloc::Global;
 use std::thread::Threads;
@@ -104,7 +104,7 @@ fn open_mesh<R: Threads + Sync>(
     ensures mesh { IfOk result (λ mesh. mesh_of unit text.items ≡ Ok mesh) }
     ensures refusal { IfErr result (IsRefusalOf (mesh_of unit text.items)) }
 {
-    read_mesh_joined(rt, alloc, &text, unit)
+    read_mesh_by_threads(rt, alloc, &text, unit)
 }
 
 /// Opens the world of a mesh text and answers the script in it.

@@ -14,26 +14,26 @@ furthest-requires-else-before-after-clause-next c = (
   omega arith,
   omega (
     arith,
-    other_is_nearer c.args.keys.now c.requires.lawful c.args.number c.shared-before.result c.shared-after.result
-        (neighbours_of c.args.keys.now c.requires.lawful c.args.number c.shared-before.result c.shared-after.result
-        (omega arith) c.requires.within c.shared-before.ensures c.shared-after.ensures)
+    other_is_nearer c.args.keys.now c.requires.lawful c.args.number c.common_prefix-before.result c.common_prefix-after.result
+        (neighbours_of c.args.keys.now c.requires.lawful c.args.number c.common_prefix-before.result c.common_prefix-after.result
+        (omega arith) c.requires.within c.common_prefix-before.ensures.value c.common_prefix-after.ensures.value)
         c.if-before-after.false,
   ),
 )
 
 pub returns-then-before-after-clause-node : goal.returns-then-before-after-clause-node
 returns-then-before-after-clause-node c =
-    up_found c.args.keys.now c.requires.lawful c.args.number c.shared-before.result c.shared-after.result
+    up_found c.args.keys.now c.requires.lawful c.args.number c.common_prefix-before.result c.common_prefix-after.result
     c.furthest.result
-    (neighbours_of c.args.keys.now c.requires.lawful c.args.number c.shared-before.result c.shared-after.result
-    (omega arith) c.requires.within c.shared-before.ensures c.shared-after.ensures)
+    (neighbours_of c.args.keys.now c.requires.lawful c.args.number c.common_prefix-before.result c.common_prefix-after.result
+    (omega arith) c.requires.within c.common_prefix-before.ensures.value c.common_prefix-after.ensures.value)
     c.if-before-after.true c.furthest.ensures.some c.furthest.ensures.reaches c.furthest.ensures.ends
 
 pub returns-else-before-after-clause-node : goal.returns-else-before-after-clause-node
 returns-else-before-after-clause-node c =
-    down_found c.args.keys.now c.requires.lawful c.args.number c.shared-before.result c.shared-after.result
+    down_found c.args.keys.now c.requires.lawful c.args.number c.common_prefix-before.result c.common_prefix-after.result
     c.furthest-else-before-after.result
-    (neighbours_of c.args.keys.now c.requires.lawful c.args.number c.shared-before.result c.shared-after.result
-    (omega arith) c.requires.within c.shared-before.ensures c.shared-after.ensures)
+    (neighbours_of c.args.keys.now c.requires.lawful c.args.number c.common_prefix-before.result c.common_prefix-after.result
+    (omega arith) c.requires.within c.common_prefix-before.ensures.value c.common_prefix-after.ensures.value)
     c.if-before-after.false c.furthest-else-before-after.ensures.some c.furthest-else-before-after.ensures.reaches
     c.furthest-else-before-after.ensures.ends

@@ -5,14 +5,16 @@ use Rattle.karras_build.proofs.fitting.+parts.Goals as goal
 
 pub fit_below-returns-clause-rows : goal.fit_below-returns-clause-rows
 fit_below-returns-clause-rows g t c =
-    let front : length c.fit_halves.new.left ≡ c.args.split - c.args.first = search rules in
-    rows_joined c.args.inputs.now c.requires.inputs _ _ _ _ (omega (arith, front, c.requires.left.order))
-    c.fit_halves.ensures.left_rows c.fit_halves.ensures.right_rows
+    let cut = c.args.cut in
+    let front : length c.fit_halves.new.left ≡ cut.split - cut.first = search rules in
+    rows_joined c.args.inputs.now c.requires.inputs _ _ _ _ (omega (arith, front, c.requires.halves.left.order))
+    c.fit_halves.ensures.left.rows c.fit_halves.ensures.right.rows
 
 pub fit_below-returns-clause-fit : goal.fit_below-returns-clause-fit
 fit_below-returns-clause-fit g t c =
-    both_halves c.args.inputs.now c.requires.inputs _ _ _ _ _ _ c.requires.left.order c.requires.right.order
-    c.fit_halves.ensures.left_fit c.fit_halves.ensures.right_fit c.union.ensures.least
+    both_halves c.args.inputs.now c.requires.inputs _ _ _ _ _ _ c.requires.halves.left.order
+    c.requires.halves.right.order c.fit_halves.ensures.left.least c.fit_halves.ensures.right.least
+    c.union.ensures.least
 
 pub fit_left-returns-in_default-clause-fit : goal.fit_left-returns-in_default-clause-fit
 fit_left-returns-in_default-clause-fit g t c =
@@ -22,15 +24,12 @@ pub fit_left-bounds-inputs-last : goal.fit_left-bounds-inputs-last
 fit_left-bounds-inputs-last g t c =
     span_inside c.args.inputs.now c.requires.inputs c.requires.part (search rules)
 
-pub fit_left-fit_below-fit-requires-clause-left : goal.fit_left-fit_below-fit-requires-clause-left
+pub fit_left-fit_below-fit-requires-clause-halves : goal.fit_left-fit_below-fit-requires-clause-halves
 unfolding span_at
-fit_left-fit_below-fit-requires-clause-left g t c κs within =
-    left_below c.args.inputs.now c.requires.inputs c.requires.part (search rules)
-
-pub fit_left-fit_below-fit-requires-clause-right : goal.fit_left-fit_below-fit-requires-clause-right
-unfolding span_at
-fit_left-fit_below-fit-requires-clause-right g t c κs within =
-    right_below c.args.inputs.now c.requires.inputs c.requires.part (search rules)
+fit_left-fit_below-fit-requires-clause-halves g t c κs within = record {
+  left = left_below c.args.inputs.now c.requires.inputs c.requires.part (search rules);
+  right = right_below c.args.inputs.now c.requires.inputs c.requires.part (search rules);
+}
 
 pub fit_left-returns-clause-rows : goal.fit_left-returns-clause-rows
 unfolding span_at
@@ -48,15 +47,12 @@ pub fit_right-bounds-inputs-first : goal.fit_right-bounds-inputs-first
 fit_right-bounds-inputs-first g t c =
     span_inside c.args.inputs.now c.requires.inputs c.requires.part (search rules)
 
-pub fit_right-fit_below-fit-requires-clause-left : goal.fit_right-fit_below-fit-requires-clause-left
+pub fit_right-fit_below-fit-requires-clause-halves : goal.fit_right-fit_below-fit-requires-clause-halves
 unfolding span_at
-fit_right-fit_below-fit-requires-clause-left g t c κs within =
-    left_below c.args.inputs.now c.requires.inputs c.requires.part (search rules)
-
-pub fit_right-fit_below-fit-requires-clause-right : goal.fit_right-fit_below-fit-requires-clause-right
-unfolding span_at
-fit_right-fit_below-fit-requires-clause-right g t c κs within =
-    right_below c.args.inputs.now c.requires.inputs c.requires.part (search rules)
+fit_right-fit_below-fit-requires-clause-halves g t c κs within = record {
+  left = left_below c.args.inputs.now c.requires.inputs c.requires.part (search rules);
+  right = right_below c.args.inputs.now c.requires.inputs c.requires.part (search rules);
+}
 
 pub fit_right-returns-clause-rows : goal.fit_right-returns-clause-rows
 unfolding span_at

@@ -11,8 +11,8 @@ use Rattle.world_engine.proofs.WorldBoxes.{tris_in_world, boxes_in_world}
 use Rattle.world_engine.proofs.Indexes.{fitted_index}
 use Rattle.world_engine.proofs.index.Index.rebuild.Goals as goal
 
-pub order_joined-requires-clause-world : goal.order_joined-requires-clause-world
-order_joined-requires-clause-world g c κs within =
+pub order_by_threads-requires-clause-world : goal.order_by_threads-requires-clause-world
+order_by_threads-requires-clause-world g c κs within =
     let points = c.args.points.now.items in
     let faces = c.args.faces.now in
     let made = c.in_ok-fit_boxes.ensures.boxes ∙ ap (λ ps. boxes_at ps faces) c.deref.ensures.value in
