@@ -30,9 +30,11 @@ within least most (Err fault) = None
 abbrev pub number_in : ℕ → ℕ → List ℕ → Option ℕ
 number_in least most text = if nat_lt MOST_DIGITS (length text) then None else within least most (whole_of text)
 
--- the build that a text names; `apetrei` is refused until there is that build
+-- the build that a text names
 abbrev pub build_of : List ℕ → Option Build
-build_of text = if bytes_eq text (codes "karras") then Some build.Karras else None
+build_of text =
+    if bytes_eq text (codes "karras") then Some build.Karras
+    else (if bytes_eq text (codes "apetrei") then Some build.Apetrei else None)
 
 -- an option with its value
 abbrev pub option_item : Name → List ℕ → Option Item

@@ -13,8 +13,10 @@ pub enum Input {
 /// How the world's tree is built. Whichever is named, the tree is the same.
 #[derive(Clone, Copy, Debug, PartialEq, Eq, Drop)]
 pub enum Build {
-    /// The radix tree of Karras (2012).
+    /// Each inner node alone, found from its place in the list of keys (Karras, 2012).
     Karras,
+    /// From the leaves up in one pass, in which a node finds its parent when it is done (Apetrei, 2014).
+    Apetrei,
 }
 
 /// What a run is asked to do.

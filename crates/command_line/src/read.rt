@@ -24,11 +24,10 @@ use std::alloc::Global;
 /// | `grid` | 1 to 6 digits, `obj_text::LEAST_GRID` to `obj_text::MOST_GRID` | |
 /// | `workers` | 1 to 6 digits, 1 to 64 | 4 |
 /// | `unit` | 1 to 6 digits, 1 to `fixed_box::UNIT_MAX` | 64 |
-/// | `build` | `karras` | `karras` |
+/// | `build` | `karras` or `apetrei` | `karras` |
 ///
-/// Every other list is refused as `Usage`, also one with `--build apetrei`, which asks for what is not there yet. The
-/// plan holds the place of the MESH word, counted from 0, or the number of `grid`. It takes memory for one command of
-/// `clap` and what that finds in at most eight words.
+/// Every other list is refused as `Usage`. The plan holds the place of the MESH word, counted from 0, or the number of
+/// `grid`. It takes memory for one command of `clap` and what that finds in at most eight words.
 pub fn read_words(alloc: Global, words: &[String]) -> Result<Plan, WordsFault>
     ensures plan { IfOk result (λ plan. plan_of (texts_of words.now) ≡ Some plan) }
     ensures usage { IfErr result (λ fault. fault ≡ WordsFault.Usage → plan_of (texts_of words.now) ≡ None) }

@@ -4,33 +4,48 @@ use crate::{Build, Input, Plan, WordsFault, read_words};
 use std::process::Abort;
 use std::test::Fail;
 
-/// Accepted lists with `grid`: the number of squares and the workers.
-const GRIDS: [(&str, u32, u32); 6] = [
-    ("--grid 512", 512, 4),
-    ("--grid=2", 2, 4),
-    ("--grid 000064 --workers 7", 64, 7),
-    ("--workers=1 --grid 64", 64, 1),
-    ("--build karras --grid 3", 3, 4),
-    ("--build=karras --workers 64 --grid=511", 511, 64),
+/// Accepted lists with `grid`: the number of squares, the workers and the build.
+const GRIDS: [(&str, u32, u32, Build); 7] = [
+    ("--grid 512", 512, 4, Build::Karras),
+    ("--grid=2", 2, 4, Build::Karras),
+    ("--grid 000064 --workers 7", 64, 7, Build::Karras),
+    ("--workers=1 --grid 64", 64, 1, Build::Karras),
+    ("--build karras --grid 3", 3, 4, Build::Karras),
+    (
+        "--build=karras --workers 64 --grid=511",
+        511,
+        64,
+        Build::Karras,
+    ),
+    ("--grid 2 --build apetrei", 2, 4, Build::Apetrei),
 ];
 
-/// Accepted lists, with one space between two words: the place of the MESH word, the workers and the unit.
-const ACCEPTED: [(&str, u32, u32, u32); 10] = [
-    ("a.obj", 0, 4, 64),
-    ("--unit=1 a.obj", 1, 4, 1),
-    ("a.obj --workers 64", 0, 64, 64),
-    ("--workers 64 a.obj", 2, 64, 64),
-    ("a.obj --unit 65536 --workers=1", 0, 1, 65536),
-    ("a.obj --build karras", 0, 4, 64),
+/// Accepted lists, with one space between two words: the place of the MESH word, the workers, the unit and the build.
+const ACCEPTED: [(&str, u32, u32, u32, Build); 12] = [
+    ("a.obj", 0, 4, 64, Build::Karras),
+    ("--unit=1 a.obj", 1, 4, 1, Build::Karras),
+    ("a.obj --workers 64", 0, 64, 64, Build::Karras),
+    ("--workers 64 a.obj", 2, 64, 64, Build::Karras),
+    ("a.obj --unit 65536 --workers=1", 0, 1, 65536, Build::Karras),
+    ("a.obj --build karras", 0, 4, 64, Build::Karras),
     (
         "--build=karras --unit 000007 --workers 000064 a.obj",
         5,
         64,
         7,
+        Build::Karras,
     ),
-    ("--workers 5 5", 2, 5, 64),
-    ("a=b", 0, 4, 64),
-    ("workers --workers 2", 0, 2, 64),
+    ("--workers 5 5", 2, 5, 64, Build::Karras),
+    ("a=b", 0, 4, 64, Build::Karras),
+    ("workers --workers 2", 0, 2, 64, Build::Karras),
+    (
+        "a.obj --workers 64 --build apetrei",
+        0,
+        64,
+        64,
+        Build::Apetrei,
+    ),
+    ("--build=apetrei a.obj", 1, 4, 64, Build::Apetrei),
 ];
 
 /// Refused lists. Two spaces, or one at an end, stand for a word that is empty.
@@ -70,7 +85,7 @@ const REFUSED: [&str; 60] = [
     "a.obj --grid=2",
     "--grid 2 --unit 1",
     "--grid 2 --unit=64",
-    "--grid 2 --build apetrei",
+    "--grid 2 --build apetre",
     "--unit 1",
     "--",
     "-- a.obj",
@@ -79,7 +94,7 @@ const REFUSED: [&str; 60] = [
     "a.obj --build fast",
     "a.obj --build Karras",
     "a.obj --build --workers 2",
-    "a.obj --workers 64 --build apetrei",
+    "a.obj --build apetrei --build karras",
     "a.obj --unit +1",
     "a.obj --unit 0",
     "a.obj --unit 65537",
@@ -99,20 +114,20 @@ const REFUSED: [&str; 60] = [
 
 #[test]
 fn lists_of_words_make_plans_or_are_refused(rt: HostRuntime) -> Result<(), Fail> {
-    for (line, place, workers, unit) in &ACCEPTED {
+    for (line, place, workers, unit, build) in &ACCEPTED {
         let plan = Plan {
             input: Input::File(*place),
             workers: *workers,
-            build: Build::Karras,
+            build: *build,
             unit: *unit,
         };
         comes_to(&rt, line, Ok(plan))?;
     }
-    for (line, squares, workers) in &GRIDS {
+    for (line, squares, workers, build) in &GRIDS {
         let plan = Plan {
             input: Input::Grid(*squares),
             workers: *workers,
-            build: Build::Karras,
+            build: *build,
             unit: 64,
         };
         comes_to(&rt, line, Ok(plan))?;

@@ -30,5 +30,8 @@ pub fn build_of(text: &[u8]) -> Option<Build>
     if text == b"karras".as_slice() {
         return Some(Build::Karras);
     }
+    if text == b"apetrei".as_slice() {
+        return Some(Build::Apetrei);
+    }
     None
 }
