@@ -127,7 +127,7 @@ impl Index {
         }
         self.fit_boxes(alloc, points, faces)?;
         let moved = self.list.moved(alloc, &self.boxes)?;
-        refit(alloc, &mut self.tree, &self.boxes)?;
+        refit(&mut self.tree, &self.boxes, &moved);
         self.list.refit(&self.boxes, &moved);
         self.marks.clear();
         Ok(())
