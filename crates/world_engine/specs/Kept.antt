@@ -5,6 +5,7 @@ use Rattle.fixed_box.specs.Extent.{tri_box}
 use Rattle.fixed_box.specs.declared.shapes.Point.{Point}
 use Rattle.fixed_box.specs.declared.shapes.Box3.{Box3}
 use Rattle.fixed_box.specs.World.{InWorld}
+use Rattle.command_line.specs.declared.limits.TheConstants.{MOST_WORKERS}
 use Rattle.obj_text.specs.Meshes.{MeshLists, IsFaceOf}
 use Rattle.obj_text.specs.declared.face.Face.{Face}
 use Rattle.obj_text.specs.declared.limits.TheConstants.{MOST_POINTS}
@@ -79,11 +80,13 @@ pub record IsIndex (index : Index) (now : List Point) (faces : List Face) : Type
   pub fans : IfSome index.fans (λ fans. AreFans fans faces (length now))
   pub work : IsCountable index.work index.tree index.boxes.items
 
--- faces over points of the world, and an index over them, in which no vertex is marked where none was moved since the
--- world was opened, refitted or built anew
-pub record IsKept (mesh : MeshLists) (now : List Point) (kept : Index) (at_rest : Bool) : Type 0 where
+-- faces over points of the world, a count of workers, and an index over the faces, in which no vertex is marked where
+-- none was moved since the world was opened, refitted or built anew
+pub record IsKept (mesh : MeshLists) (now : List Point) (workers : ℕ) (kept : Index) (at_rest : Bool) : Type 0 where
   pub in_world : All InWorld now
   pub few : length now ≤ MOST_POINTS
   pub named : All (IsFaceOf (length now)) mesh.faces
+  pub some_workers : 1 ≤ workers
+  pub few_workers : workers ≤ MOST_WORKERS
   pub index : IsIndex kept now mesh.faces
   pub settled : at_rest ≡ true → kept.marks.moved ≡ []
