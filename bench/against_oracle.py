@@ -4,11 +4,12 @@
     python3 bench/against_oracle.py [--program PATH] [--files FOLDER] [--random COUNT] [--long COUNT] [--seed N] [--all]
 
 1. Worked rows, whose replies were found by hand: the oracle is compared with them first, then the program; lists of words
-   of the command line; and the large workload, `--grid N`.
+   of the command line; ends that are no answer, as a mesh that is not there, by both as programs; and the large workload,
+   `--grid N`.
 2. Real files of other people's tools, in ../shared/objs: at 64 steps to a unit, at the largest unit at which the file fits,
    and at the smallest; skipped with a message where the folder is missing.
-3. Random small meshes and scripts from a fixed seed, faulty ones among them; some of the meshes also among so many rows that
-   are passed over that the program reads the text in parts.
+3. Random small meshes and scripts from a fixed seed, faulty ones among them, by both builds and several counts of workers;
+   some of the meshes also among so many rows that are passed over that the program reads the text in parts.
 
 The program is asked first which of the script words and options it knows. A word that it does not know is to be answered
 `unknown word`, and is no word of the oracle either; without `--unit` all runs are at 64. All that lacks is told, and `--all` makes it
@@ -151,11 +152,23 @@ SPANS = [(0, 7, 3), (0, 1, 0), (2, 3, 2), (0, 3, 1), (4, 7, 4), (5, 7, 6), (5, 6
 
 # Words of the command line, where there is more than the mesh; MESH stands for its path.
 ACCEPTED = ["MESH", "--unit=1 MESH", "MESH --workers 64 --build karras", "--build=karras --unit 000007 MESH --workers=1",
-            "MESH --unit 65536"]
-REFUSED = ["", "MESH MESH", "MESH --workers 0", "MESH --workers 65", "MESH --workers 2 --workers 2", "--grid 1", "--grid 2 MESH",
+            "MESH --unit 65536", "MESH --build apetrei", "--build=apetrei --workers=64 MESH"]
+REFUSED = ["", "MESH MESH", "MESH --build plain", "MESH --build Karras", "MESH --build karras --build apetrei",
+           "MESH --build", "MESH --build=", "MESH --workers -1", "--grid", "- MESH", "MESH --grid=2 --unit=1",
+           "MESH --workers 0", "MESH --workers 65", "MESH --workers 2 --workers 2", "--grid 1", "--grid 2 MESH",
            "--grid 2 --unit 1", "--grid 513", "--grid +2", "--grid 2 --grid 2", "--grid 0000002",
            "-- MESH", "MESH --build fast", "MESH --unit +1", "--help", "-h", "--version", "-V", "MESH --unit 0",
            "MESH --unit 65537", "MESH --unit 0000001", "MESH --unit", "MESH --unit=", "MESH -u 1", "--unit MESH", "MESH --Unit 1"]
+
+
+# Words of the command line, what is told of standard input and output, and the status that is wanted. FULL is an output
+# that takes nothing, CLOSED one that is closed.
+ENDS = [("no-such-file.obj", None, None, oracle.READ_FAULT), ("FOLDER", None, None, oracle.READ_FAULT),
+        ("MESH", "CLOSED", None, oracle.READ_FAULT), ("MESH", None, "FULL", oracle.WRITE_FAULT),
+        ("MESH", None, "CLOSED", oracle.WRITE_FAULT), ("", None, "FULL", oracle.WRITE_FAULT),
+        ("--grid 2", None, "FULL", oracle.WRITE_FAULT), ("--grid 2", "CLOSED", None, oracle.DONE),
+        ("FAULTY", "CLOSED", None, oracle.MESH_REFUSED), ("FAULTY", None, "FULL", oracle.WRITE_FAULT),
+        ("MESH --unit 0", "CLOSED", None, oracle.USAGE), ("MESH", None, None, oracle.DONE)]
 
 
 # the large workload of two squares along each side, by hand, and the counts of squares that the oracle is asked
@@ -199,6 +212,10 @@ def oracle_agrees_with_rows():
     if oracle.grid_report(2) != GRID_OF_TWO:
         bad += 1
         print(f"ORACLE: two squares along each side: {oracle.grid_report(2)}, by hand {GRID_OF_TWO}")
+    for words, accepted in [(words, True) for words in ACCEPTED] + [(words, False) for words in REFUSED]:
+        if (oracle.plan_of(words.split()) is not None) != accepted:
+            bad += 1
+            print(f"ORACLE: the words `{words}`: {oracle.plan_of(words.split())}")
     for name, mesh, unit, script, output, status in ROWS:
         if script is not None and oracle.run(mesh, script, unit) != (output, status):
             bad += 1
@@ -227,17 +244,17 @@ class Program:
             sys.exit(f"the program wrote to standard error: {done.stderr[:200]}")
         return done.stdout, done.returncode
 
-    def run(self, mesh, script, unit):
-        return self.start(mesh, script, [] if unit == oracle.UNIT else ["--unit", str(unit)])
+    def run(self, mesh, script, unit, options=()):
+        return self.start(mesh, script, [*options, *([] if unit == oracle.UNIT else ["--unit", str(unit)])])
 
-    def compare(self, name, mesh, script, unit, expected=None):
+    def compare(self, name, mesh, script, unit, expected=None, options=()):
         """Runs the program over the mesh text, and compares with what is expected, or with the oracle's answer."""
         if unit != oracle.UNIT and not self.has_unit:
             return
         path = os.path.join(self.folder, "mesh.obj")
         with open(path, "wb") as file:
             file.write(mesh)
-        got = self.run(path, script, unit)
+        got = self.run(path, script, unit, options)
         expected = expected or oracle.run(mesh, script, unit, self.words)
         self.compared += 1
         self.lines += script.count(b"\n")
@@ -247,7 +264,8 @@ class Program:
             for file_name, content in [("mesh.obj", mesh), ("script", script), ("program", got[0]), ("oracle", expected[0])]:
                 with open(os.path.join(kept, file_name), "wb") as file:
                     file.write(content)
-            print(f"DIFFERS: {name}, unit {unit}: program status {got[1]}, oracle {expected[1]}; kept in {kept}")
+            print(f"DIFFERS: {name}, unit {unit} {' '.join(options)}: program status {got[1]}, oracle {expected[1]}; kept in "
+                  f"{kept}")
             for ours, theirs in zip(got[0].split(b"\n"), expected[0].split(b"\n")):
                 if ours != theirs:
                     print(f"  program: {ours[:200]}\n  oracle:  {theirs[:200]}")
@@ -266,6 +284,25 @@ def compare_words(program):
         if (done.stdout, done.returncode) != ((b"", oracle.DONE) if accepted else (b"bad command line\n", oracle.USAGE)):
             program.bad += 1
             print(f"DIFFERS: the words `{words}`: status {done.returncode}, {done.stdout[:100]}")
+
+
+def compare_ends(program):
+    """Ends that are no answer, of the program and of the oracle as a program."""
+    folder = os.path.dirname(program.probe)
+    names = {"MESH": program.probe, "FOLDER": folder, "FAULTY": os.path.join(folder, "faulty.obj")}
+    with open(names["FAULTY"], "wb") as file:
+        file.write(b"v 0 0\n")
+    for words, told, output, status in ENDS:
+        options = [names.get(word, word) for word in words.split()]
+        for command in ([program.path], [sys.executable, os.path.join(HERE, "oracle.py")]):
+            shell = '"$@"' + (" <&-" if told == "CLOSED" else "") + {"FULL": " >/dev/full", "CLOSED": " >&-"}.get(output, "")
+            done = subprocess.run(["sh", "-c", shell, "sh", *command, *options], input=None if told else b"groups\n",
+                                  capture_output=True, check=False)
+            program.compared += 1
+            if (done.returncode, done.stderr) != (status, b""):
+                program.bad += 1
+                print(f"DIFFERS: `{words}`, input {told}, output {output}, of {command[-1]}: status {done.returncode}, wanted "
+                      f"{status}; it said {done.stderr[-200:]}")
 
 
 def compare_grids(program):
@@ -490,11 +527,16 @@ def damaged(chance, text):
     return text
 
 
+# no reply depends on these
+BUILDS = [[], ["--build", "apetrei"], ["--build=karras", "--workers=1"], ["--workers", "64", "--build=apetrei"]]
+
+
 def compare_random(program, chance, count):
     for number in range(count):
         unit = chance.choice([1, 2, 64, 64, 100, 1000, 65_536]) if program.has_unit else oracle.UNIT
         mesh = damaged(chance, random_mesh(chance, unit))
-        program.compare(f"random mesh {number}", mesh, damaged(chance, random_script(chance, mesh, unit)), unit)
+        script = damaged(chance, random_script(chance, mesh, unit))
+        program.compare(f"random mesh {number}", mesh, script, unit, options=BUILDS[number % len(BUILDS)])
 
 
 LONG = 1_200_000    # bytes; from 1,048,576 on a text is read in parts
@@ -549,6 +591,8 @@ def main():
         if program.has_unit:
             compare_words(program)
             print(f"words of the command line: {len(ACCEPTED)} lists accepted, {len(REFUSED)} refused")
+            compare_ends(program)
+            print(f"ends that are no answer: {len(ENDS)}, by both")
         if program.has_grid:
             compare_grids(program)
             print(f"the large workload: {len(GRIDS)} counts of squares, by 1, 4 and 7 workers")

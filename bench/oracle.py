@@ -1,20 +1,20 @@
 #!/usr/bin/env python3
 """The answers of `world`, by another way: a plain program that follows the documents word for word and is in no hurry.
 
-    python3 bench/oracle.py MESH [--unit U] < SCRIPT
-    python3 bench/oracle.py --grid N
+    python3 bench/oracle.py MESH [--unit U] [--workers W] [--build karras|apetrei] < SCRIPT
+    python3 bench/oracle.py --grid N [--workers W] [--build karras|apetrei]
 
-It writes what `world MESH --unit U < SCRIPT`, or `world --grid N`, is to write, and ends with the same status. Nothing of the Rattle code is
-used or imitated: number words become exact fractions, the tree is the recursion from the top, a box query tests the box
-of every triangle, and a segment query solves a linear equation, in fractions, with every triangle. It stands on Python's
-standard library alone. Meshes of some thousand triangles are its measure.
+It takes the words that `world` takes, writes what `world` is to write, and ends with the same status. Nothing of the
+Rattle code is used or imitated: number words become exact fractions, the tree is the recursion from the top, a box query
+tests the box of every triangle, and a segment query solves a linear equation, in fractions, with every triangle. It
+stands on Python's standard library alone. Meshes of some thousand triangles are its measure.
 
-`docs/OBJ.md` says how a mesh is read, `docs/WORDS.md` what a script line asks and how it is answered.
-`bench/against_oracle.py` compares the program with it.
+`docs/GUIDE.md` says which words are accepted, `docs/OBJ.md` how a mesh is read, `docs/WORDS.md` what a script line asks
+and how it is answered. `bench/against_oracle.py` compares the program with it.
 """
 
-import argparse
 import math
+import os
 import re
 import sys
 from collections import Counter
@@ -399,29 +399,39 @@ def answer(world, line, unit, words=WORDS):
     return getattr(world, first.decode())(*numbers, *points)
 
 
-def run(mesh_text, script, unit=UNIT, words=WORDS):
-    """What the program writes, and its status. `words` are the script words that are known."""
+def opened(mesh_text, unit):
+    """The mesh of a mesh text and None; or None and what is written where it is refused."""
     if len(mesh_text) > MESH_MOST:
-        return b"mesh too long\n", MESH_REFUSED
+        return None, b"mesh too long\n"
     mesh, fault = read_mesh(mesh_text, unit)
-    if fault:
-        return b"mesh line %d: %b\n" % (fault[0], fault[1].encode()), MESH_REFUSED
-    world, output, status = World(mesh), [], DONE
+    return mesh, b"mesh line %d: %b\n" % (fault[0], fault[1].encode()) if fault else None
+
+
+def answered(mesh, script, unit, words=WORDS, failed=False):
+    """The replies to a script over a mesh, and the status. `words` are the script words that are known. Where the reading
+    of the script failed behind these bytes, the lines that ended in them are answered."""
+    world, output, status = World(mesh), [], READ_FAULT if failed else DONE
     too_long = len(script) > SCRIPT_MOST
-    if too_long:
+    if too_long or failed:
         script = script[:SCRIPT_MOST]
         script = script[:script.rfind(b"\n") + 1]
     for number, line in enumerate(lines_of(script), 1):
         try:
             reply = answer(world, line, unit, words)
         except Refused as reason:
-            reply, status = f"line {number}: {reason}", LINES_REFUSED
+            reply, status = f"line {number}: {reason}", status or LINES_REFUSED
         if reply is not None:
             output.append((reply if isinstance(reply, bytes) else reply.encode()) + b"\n")
     if too_long:
         output.append(b"script too long\n")
         status = LINES_REFUSED
     return b"".join(output), status
+
+
+def run(mesh_text, script, unit=UNIT, words=WORDS):
+    """What the program writes over a mesh text and a script, and its status."""
+    mesh, refusal = opened(mesh_text, unit)
+    return (refusal, MESH_REFUSED) if refusal else answered(mesh, script, unit, words)
 
 
 # ------------------------------------------------------------------------------------------------ the large workload
@@ -473,24 +483,90 @@ def grid_report(squares):
     return "".join(line + "\n" for line in lines).encode()
 
 
-def main():
-    parser = argparse.ArgumentParser(description="Answers a script over a mesh as `world` is to answer it.")
-    parser.add_argument("mesh", nargs="?")
-    parser.add_argument("--grid", type=int, choices=range(2, 513), metavar="2..512")
-    parser.add_argument("--unit", type=int, default=UNIT, choices=range(1, UNIT_MOST + 1), metavar="1..65536")
-    chosen = parser.parse_args()
-    if (chosen.mesh is None) == (chosen.grid is None):
-        parser.error("one of MESH and --grid is wanted")
-    if chosen.grid:
-        sys.stdout.buffer.write(grid_report(chosen.grid))
-        sys.exit(DONE)
+# ------------------------------------------------------------------------------------------------ the command line
+
+BUILDS = ("karras", "apetrei")
+OPTIONS = {"unit": range(1, UNIT_MOST + 1), "workers": range(1, 65), "grid": range(2, 513), "build": BUILDS}
+
+
+def value_of(name, text):
+    """The value that a text gives an option; None where it gives none."""
+    value = text if name == "build" else int(text) if re.fullmatch("[0-9]{1,6}", text) else None
+    return value if value in OPTIONS[name] else None
+
+
+def plan_of(words):
+    """What the words of a command line ask for, by name: `mesh` or `grid`, and the options that stand; None where they are
+    not accepted."""
+    plan, words = {}, list(words)
+    while words:
+        word = words.pop(0)
+        if word.startswith("--"):
+            name, equals, text = word[2:].partition("=")
+            if name not in OPTIONS or not equals and (not words or words[0].startswith("-")):
+                return None
+            value = value_of(name, text if equals else words.pop(0))
+        else:
+            name, value = "mesh", word if word and not word.startswith("-") else None
+        if value is None or name in plan:
+            return None
+        plan[name] = value
+    if ("mesh" in plan) == ("grid" in plan) or "grid" in plan and "unit" in plan:
+        return None
+    return plan
+
+
+def bytes_of(file, most):
+    """The bytes of a file up to one more than so many, and whether its reading failed behind them."""
+    text = b""
     try:
-        with open(chosen.mesh, "rb") as file:
-            text = file.read()
+        while len(text) <= most and (piece := os.read(file, min(most + 1 - len(text), 1 << 20))):
+            text += piece
     except OSError:
-        sys.exit(READ_FAULT)
-    output, status = run(text, sys.stdin.buffer.read(), chosen.unit)
-    sys.stdout.buffer.write(output)
+        return text, True
+    return text, False
+
+
+def answer_words(words):
+    """What the program writes and its status, by the words of its command line, the mesh file and standard input."""
+    plan = plan_of(words)
+    if plan is None:
+        return b"bad command line\n", USAGE
+    if "grid" in plan:
+        return grid_report(plan["grid"]), DONE
+    try:
+        file = os.open(plan["mesh"], os.O_RDONLY)
+    except (OSError, ValueError):       # a name with a zero byte, which no command line has
+        return b"", READ_FAULT
+    mesh_text, failed = bytes_of(file, MESH_MOST)
+    os.close(file)
+    if failed:
+        return b"", READ_FAULT
+    unit = plan.get("unit", UNIT)
+    mesh, refusal = opened(mesh_text, unit)
+    if refusal:
+        return refusal, MESH_REFUSED    # and the script is not touched
+    script, failed = bytes_of(0, SCRIPT_MOST)
+    return answered(mesh, script, unit, failed=failed)
+
+
+def main():
+    words = []
+    for word in sys.argv[1:]:
+        try:
+            words.append(os.fsencode(word).decode())
+        except UnicodeDecodeError:
+            words = [""]                # words that are not all UTF-8 are not accepted
+            break
+    try:
+        output, status = answer_words(words)
+    except MemoryError:
+        output, status = b"", MEMORY
+    try:
+        while output:
+            output = output[os.write(1, output):]
+    except OSError:
+        status = WRITE_FAULT
     sys.exit(status)
 
 

@@ -15,3 +15,6 @@ pub use answering::{Answered, answer_lines};
 pub use fetching::fetch_all;
 pub use loads::{FILE_PIECE, LoadFault, Loaded, PIECE};
 pub use writing::write_all;
+
+#[cfg(test)]
+mod tests;

@@ -24,7 +24,7 @@ mod sums;
 mod workload;
 mod world;
 
-pub use command_line::Build;
+pub use command_line::{Build, Input, Plan, WordsFault, read_words};
 pub use report::grid_report;
 pub use runs::run;
 pub use status::Status;
