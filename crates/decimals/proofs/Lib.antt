@@ -1,5 +1,4 @@
 pub mod Runs
-pub mod Room
 pub mod Lengths
 pub mod Powers
 pub mod Floors

@@ -3,7 +3,8 @@ pub mod Joining
 pub mod Plain
 pub mod Spaces
 pub mod FirstBytes
-pub mod Digits
+pub mod DigitWords
+pub mod DigitRuns
 pub mod Fronts
 pub mod Endings
 pub mod Halving
