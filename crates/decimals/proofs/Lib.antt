@@ -5,5 +5,6 @@ pub mod Floors
 pub mod Scales
 pub mod Caps
 pub mod Words
+pub mod LeadingWords
 pub mod Wholes
 mod Examples

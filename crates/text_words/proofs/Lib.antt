@@ -1,6 +1,7 @@
 pub mod Cuts
 pub mod Joining
 pub mod Plain
+pub mod PlainLines
 pub mod Spaces
 pub mod FirstBytes
 pub mod DigitWords
