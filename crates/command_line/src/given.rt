@@ -7,7 +7,6 @@ ghost use Rattle.command_line.specs.Uses.{input_from, is_mesh, plan_from, read_o
 ghost use Rattle.command_line.specs.declared.plan.Input.TheVariants.{File, Grid};
 
 use crate::limits::{MOST_WORKERS, UNIT, WORKERS};
-use crate::place::starts_minus;
 use crate::plan::{Build, Input, Plan};
 use crate::values::{build_of, number_in};
 use clap::ArgMatches;

@@ -2,11 +2,11 @@
 
 ghost use Rattle.std.specs.Prelude.{◌≡◌, ◌==◌, ◌≤◌, false, not, length};
 ghost use Rattle.std.specs.List.{list_any};
-ghost use Rattle.text_words.specs.Numbers.{starts_minus};
 ghost use Rattle.command_line.specs.Items.{texts_of};
 ghost use Rattle.command_line.specs.Uses.{has_dashes, mesh_from};
 
 use crate::limits::MOST_WORDS;
+use text_words::starts_minus;
 
 /// Whether a word is `--`, behind which `clap` would take each word as the MESH word.
 pub fn has_dashes(words: &[String]) -> bool
@@ -37,13 +37,6 @@ pub fn mesh_place(words: &[String]) -> Option<u32>
         }
     }
     None
-}
-
-/// Whether the text begins with `-`.
-pub fn starts_minus(text: &[u8]) -> bool
-    ensures { result ≡ starts_minus text.now }
-{
-    matches!(text, [b'-', ..])
 }
 
 fn has_equals_sign(text: &[u8]) -> bool

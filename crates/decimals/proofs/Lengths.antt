@@ -2,9 +2,9 @@
 use Rattle.std.proofs.Common.{arith, ◌≡◌, ◌≤◌, ◌<◌, ◌*◌, ◌^◌, ◌+◌, ◌-◌, ◌==◌, ◌++◌, ◌∷◌, [], List, length, cond, nat_le, nat_lt, ℕ, Bool, true, false, refl, sym, ap, ◌∙◌, subst, ◌⊎◌, inl, inr, eq-eqb}
 use Rattle.std.proofs.Math.Nat.{pow-le-pow_right, mul-le-mul_right}
 use Rattle.std.proofs.lemmas.Bool.Decides.{nat_tests}
-use Rattle.text_words.specs.Numbers.{is_digit, value_after}
+use Rattle.text_words.specs.Numbers.{is_digit, value_after, digits_of, past_sign, past_digits}
 use Rattle.decimals.specs.declared.limits.TheConstants.{PAST_MOST_DIGITS}
-use Rattle.decimals.specs.Decimals.{digits_of, fraction_of, whole_part, fraction_part, mantissa_digits, past_sign, past_digits, significant, is_too_long}
+use Rattle.decimals.specs.Decimals.{fraction_of, whole_part, fraction_part, mantissa_digits, significant, is_too_long}
 
 -- each is a digit
 abbrev pub AreDigits : List ℕ → Type 0

@@ -1,10 +1,10 @@
 pub mod Runs
-pub mod Room
 pub mod Lengths
 pub mod Powers
 pub mod Floors
 pub mod Scales
 pub mod Caps
 pub mod Words
+pub mod LeadingWords
 pub mod Wholes
 mod Examples

@@ -1,8 +1,7 @@
 -- Digits that are read one by one, with a number that is cut off at a limit.
 use Rattle.std.proofs.Common.{arith, ◌≡◌, ◌≤◌, ◌*◌, ◌+◌, ◌-◌, ◌∷◌, ◌++◌, [], List, length, cond, ◌==◌, drop, min, ℕ, Bool, true, false, refl, sym, ap, ◌∙◌}
 use Rattle.std.proofs.lemmas.Bool.Decides.{nat_tests}
-use Rattle.text_words.specs.Numbers.{is_digit, value_after}
-use Rattle.decimals.specs.Decimals.{digits_of, past_digits}
+use Rattle.text_words.specs.Numbers.{is_digit, value_after, digits_of, past_digits}
 
 cut_step : (n c d : ℕ) → min (min n c * 10 + d) c ≡ min (n * 10 + d) c
 cut_step n c d = grind arith

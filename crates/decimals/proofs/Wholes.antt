@@ -3,8 +3,8 @@ use Rattle.std.proofs.Common.{arith, ◌≡◌, ◌≤◌, ◌<◌, ◌&&◌, []
 use Rattle.std.proofs.lemmas.Bool.Decides.{nat_tests}
 use Rattle.std.proofs.lemmas.List.{nil_from_length}
 use Rattle.text_words.specs.Lines.{is_word}
-use Rattle.text_words.specs.Numbers.{value_after}
-use Rattle.decimals.specs.Decimals.{digits_of, past_digits, is_whole, is_too_long}
+use Rattle.text_words.specs.Numbers.{value_after, digits_of, past_digits}
+use Rattle.decimals.specs.Decimals.{is_whole, is_too_long}
 use Rattle.decimals.specs.Values.{whole_of}
 use Rattle.decimals.specs.declared.fault.NumberFault.{NumberFault}
 use Rattle.decimals.specs.declared.limits.TheConstants.{GREATEST, PAST_MOST_DIGITS}

@@ -6,12 +6,12 @@ use Rattle.text_words.specs.Numbers.{value_after, starts_minus}
 use Rattle.decimals.specs.Decimals.{whole_part, fraction_part, ending_part, mantissa_digits, is_decimal, is_ending, is_too_long, raised_by, lowered_by}
 use Rattle.decimals.specs.Fractions.{nearest_step, scaled, fraction_written}
 use Rattle.decimals.specs.Values.{brought_in, grid_of}
-use Rattle.decimals.specs.Rounding.{IsReadAs}
+use Rattle.decimals.specs.Rounding.{IsReadAs, IsFront}
 use Rattle.decimals.specs.declared.decimal.Decimal.{Decimal}
 use Rattle.decimals.specs.declared.fault.NumberFault.{NumberFault}
 use Rattle.decimals.specs.declared.limits.TheConstants.{PAST_MOST_DIGITS}
 use Rattle.decimals.specs.declared.fault.NumberFault.TheVariants.{NotANumber, TooLong}
-use Rattle.decimals.proofs.Runs.{two_runs}
+use Rattle.decimals.proofs.Runs.{two_runs, value_after-append}
 use Rattle.decimals.proofs.Lengths.{too_long_is, mantissa_are}
 use Rattle.decimals.proofs.Caps.{same_value}
 
@@ -70,6 +70,40 @@ parts_read word d whole before p = record {
   lowered = p.lowered;
   one = p.one;
 }
+
+-- the number that the digits before the point and those behind it write
+pub front_mantissa : (text : List ℕ) (whole value : ℕ) → whole ≡ value_after 0 (whole_part text)
+    → value ≡ value_after whole (fraction_part text) → value ≡ value_after 0 (mantissa_digits text)
+front_mantissa text whole value p q =
+    q ∙ ap (λ k. value_after k (fraction_part text)) p
+    ∙ sym (value_after-append 0 (whole_part text) (fraction_part text))
+
+-- one of them is there
+pub front_some : (text : List ℕ) (before behind : ℕ) → before ≡ length (whole_part text)
+    → behind ≡ length (fraction_part text) → nat_lt 0 (before + behind) ≡ true → is_word (mantissa_digits text) ≡ true
+front_some text before behind p q e =
+    is_word-append (whole_part text) (fraction_part text)
+    ∙ ap (λ k. nat_lt 0 (k + length (fraction_part text))) (sym p) ∙ ap (λ k. nat_lt 0 (before + k)) (sym q) ∙ e
+
+none_left : (rest : List ℕ) → length rest ≡ 0 → rest ≡ []
+none_left [] e = refl
+none_left (b ∷ bs) e = absurd (omega (arith, e))
+
+-- a word that begins with a decimal and ends there is read as that
+pub front_read : (word : List ℕ) (d : Decimal) (rest : List ℕ) → IsFront word d rest → length rest ≡ 0
+    → IsReadAs word d
+front_read word d rest p none =
+    let ends : ending_part word ≡ [] = sym p.rest_is ∙ none_left rest none in
+    let few = p.few in
+    record {
+      decimal = ap (λ k. k && is_ending (ending_part word)) p.some ∙ ap is_ending ends;
+      minus = p.minus;
+      mantissa = omega (arith, p.mantissa, few);
+      places = p.places;
+      raised = p.raised ∙ sym (ap (λ e. min (raised_by e) PAST_MOST_DIGITS) ends);
+      lowered = p.lowered ∙ sym (ap (λ e. min (lowered_by e) PAST_MOST_DIGITS) ends);
+      one = inl p.raised;
+    }
 
 -- a decimal with too many digits
 pub too_long_word : (unit : ℕ) (word : List ℕ) (d : Decimal) → IsReadAs word d → PAST_MOST_DIGITS ≤ d.mantissa

@@ -1,22 +1,8 @@
 -- The words that are decimals or whole numbers, and their parts, from left to right.
 use Rattle.std.specs.Prelude.{ℕ, Bool, true, List, [], ◌∷◌, ◌++◌, ◌==◌, ◌||◌, ◌&&◌, nat_lt, not, length, if◌then◌else◌}
 use Rattle.text_words.specs.Lines.{is_word}
-use Rattle.text_words.specs.Numbers.{is_digit, value_after, starts_minus}
+use Rattle.text_words.specs.Numbers.{value_after, starts_minus, past_sign, digits_of, past_digits}
 use Rattle.decimals.specs.declared.limits.TheConstants.{MOST_DIGITS}
-
--- the digits at the front of a text, and what follows them
-abbrev pub digits_of : List ℕ → List ℕ
-digits_of [] = []
-digits_of (b ∷ bs) = if is_digit b then b ∷ digits_of bs else []
-
-abbrev pub past_digits : List ℕ → List ℕ
-past_digits [] = []
-past_digits (b ∷ bs) = if is_digit b then past_digits bs else b ∷ bs
-
--- what follows a '+' or '-' at the front
-abbrev pub past_sign : List ℕ → List ℕ
-past_sign [] = []
-past_sign (b ∷ bs) = if b == 43 || b == 45 then bs else b ∷ bs
 
 -- the digits behind a '.' at the front, and what follows them
 abbrev pub fraction_of : List ℕ → List ℕ

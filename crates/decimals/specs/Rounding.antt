@@ -1,5 +1,6 @@
 -- How a size is rounded, with its sign apart. No public clause cites this module.
-use Rattle.std.specs.Prelude.{◌≡◌, ◌⊎◌, ◌≤◌, ℕ, ◌+◌, ◌-◌, ◌*◌, ◌/◌, ◌^◌, Bool, List, true, length, min, if◌then◌else◌}
+use Rattle.std.specs.Prelude.{◌≡◌, ◌⊎◌, ◌<◌, ℕ, ◌+◌, ◌-◌, ◌*◌, ◌/◌, ◌^◌, Bool, List, true, length, min, if◌then◌else◌}
+use Rattle.text_words.specs.Lines.{is_word}
 use Rattle.text_words.specs.Numbers.{value_after, starts_minus}
 use Rattle.decimals.specs.Decimals.{is_decimal, mantissa_digits, fraction_part, ending_part, raised_by, lowered_by}
 use Rattle.decimals.specs.declared.decimal.Decimal.{Decimal}
@@ -23,6 +24,13 @@ pub record IsReadAs (word : List ℕ) (d : Decimal) : Type 0 where
   pub lowered : d.lowered ≡ min (lowered_by (ending_part word)) PAST_MOST_DIGITS
   pub one : (d.raised ≡ 0) ⊎ (d.lowered ≡ 0)
 
--- the digits of a text have room behind a value, whatever they are
-abbrev pub HasRoom : ℕ → List ℕ → Type 0
-HasRoom value text = (value + 1) * 10 ^ length text ≤ FEW
+-- the text begins with this decimal without an exponent, whose digits fit 64 bits, and goes on so
+pub record IsFront (text : List ℕ) (d : Decimal) (rest : List ℕ) : Type 0 where
+  pub minus : d.minus ≡ starts_minus text
+  pub mantissa : d.mantissa ≡ value_after 0 (mantissa_digits text)
+  pub places : d.places ≡ length (fraction_part text)
+  pub some : is_word (mantissa_digits text) ≡ true
+  pub rest_is : rest ≡ ending_part text
+  pub few : d.mantissa < FEW
+  pub raised : d.raised ≡ 0
+  pub lowered : d.lowered ≡ 0

@@ -1,8 +1,7 @@
 //! Runs of digits. A number grows in 64 bits as long as it can, which nearly all do, and in 128 bits from there on.
 
-ghost use Rattle.std.specs.Prelude.{◌≡◌, ◌<◌, ◌≤◌, ◌*◌, length, min};
-ghost use Rattle.text_words.specs.Numbers.{is_digit, value_after};
-ghost use Rattle.decimals.specs.Decimals.{digits_of, past_digits};
+ghost use Rattle.std.specs.Prelude.{◌≡◌, ◌≤◌, length, min};
+ghost use Rattle.text_words.specs.Numbers.{is_digit, value_after, digits_of, past_digits};
 
 use crate::limits::{FEW, PAST_MOST_DIGITS};
 use text_words::is_digit;
@@ -16,29 +15,12 @@ pub fn digits(before: u128, text: &[u8]) -> (u128, usize, &[u8])
     ensures rest { result.2.now ≡ past_digits text.now }
 {
     let (value, rest) = if before < u128::from(FEW) {
-        let (few, more) = few_digits(before as u64, text);
+        let (few, more) = text_words::digits(before as u64, text);
         many_digits(u128::from(few), more)
     } else {
         many_digits(before, text)
     };
     (value, text.len() - rest.len(), rest)
-}
-
-/// As many of the digits at the front as have room in 64 bits, and what follows them.
-fn few_digits(before: u64, text: &[u8]) -> (u64, &[u8])
-    requires { before < FEW }
-    ensures value { value_after before (digits_of text.now) ≡ value_after result.0 (digits_of result.1.now) }
-    ensures rest { past_digits text.now ≡ past_digits result.1.now }
-    ensures small { result.0 < 10 * FEW }
-{
-    let mut value = before;
-    for (at, b) in text.iter().enumerate() {
-        if value >= FEW || !is_digit(*b) {
-            return (value, &text[at..]);
-        }
-        value = value * 10 + u64::from(*b - b'0');
-    }
-    (value, &text[text.len()..])
 }
 
 /// The digits at the front behind those of `before`, cut off, and what follows them.

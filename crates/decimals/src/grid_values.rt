@@ -1,12 +1,14 @@
 //! Decimals as whole numbers of grid steps.
 
-ghost use Rattle.std.specs.Prelude.{◌≡◌};
+ghost use Rattle.std.specs.Prelude.{◌≡◌, ◌≤◌, ◌∷◌, ◌++◌, IfSome, Ok};
+ghost use Rattle.text_words.specs.PlainLines.{IsPlainWord};
 ghost use Rattle.decimals.specs.Values.{grid_of};
 
 use crate::fault::NumberFault;
 use crate::limits::PAST_MOST_DIGITS;
 use crate::parts::decimal_parts;
 use crate::rounding::grid_steps;
+use crate::short::short_front;
 
 /// The grid value of a decimal word: the whole number of grid steps nearest to it, with `unit` steps to one, exactly.
 ///
@@ -23,4 +25,27 @@ pub fn grid(word: &[u8], unit: u32) -> Result<i64, NumberFault>
         return Err(NumberFault::TooLong);
     }
     Ok(grid_steps(&decimal, unit))
+}
+
+/// The grid value of the decimal that a text begins with, its word, and what follows the byte `stop` right behind it,
+/// in one pass. `None` says nothing of the text: most decimals have an answer, but those with an exponent or with many
+/// digits have none.
+#[inline(always)]
+pub fn grid_before(stop: u8, text: &[u8], unit: u32) -> Option<(i64, &[u8], &[u8])>
+    requires { stop ≤ 32 }
+    ensures value { IfSome result (λ parts. grid_of unit parts.1.now ≡ Ok parts.0) }
+    ensures whole { IfSome result (λ parts. text.now ≡ parts.1.now ++ stop ∷ parts.2.now) }
+    ensures plain { IfSome result (λ parts. IsPlainWord parts.1.now) }
+{
+    let Some((decimal, rest)) = short_front(text) else {
+        return None;
+    };
+    let [b, behind @ ..] = rest else {
+        return None;
+    };
+    if *b != stop {
+        return None;
+    }
+    let word = &text[..text.len() - rest.len()];
+    Some((grid_steps(&decimal, unit), word, behind))
 }

@@ -15,7 +15,7 @@ mod short;
 mod whole_numbers;
 
 pub use fault::NumberFault;
-pub use grid_values::grid;
+pub use grid_values::{grid, grid_before};
 pub use limits::{GREATEST, MOST_DIGITS};
 pub use whole_numbers::whole;
 

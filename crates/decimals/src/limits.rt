@@ -12,9 +12,6 @@ pub const GREATEST: u64 = 1_099_511_627_776;
 /// A number below this has room for one digit more in 64 bits, 10^18.
 pub const FEW: u64 = 1_000_000_000_000_000_000;
 
-/// So many digits are a number below `FEW`.
-pub const FEW_DIGITS: usize = 18;
-
 /// The powers of ten from 10^0 to 10^18.
 pub const POWERS: [u64; 19] = [
     1,

@@ -1,14 +1,15 @@
 //! A decimal word, taken apart from left to right in one pass. A short one is tried first.
 
 ghost use Rattle.std.specs.Prelude.{◌≡◌, ◌≤◌, ◌+◌, ◌⊎◌, true, false, length, min, nat_lt, IfSome, MatchOption};
-ghost use Rattle.text_words.specs.Numbers.{value_after, starts_minus};
-ghost use Rattle.decimals.specs.Decimals.{digits_of, past_sign, fraction_of, past_fraction, is_whole, is_ending, is_decimal, raised_by, lowered_by};
+ghost use Rattle.text_words.specs.Numbers.{value_after, starts_minus, digits_of, past_sign};
+ghost use Rattle.decimals.specs.Decimals.{fraction_of, past_fraction, is_whole, is_ending, is_decimal, raised_by, lowered_by};
 ghost use Rattle.decimals.specs.Rounding.{IsReadAs};
 
 use crate::decimal::Decimal;
 use crate::digits::digits;
 use crate::limits::PAST_MOST_DIGITS;
 use crate::short::short_parts;
+use text_words::sign;
 
 /// The parts of a decimal, or `None` where the word is none.
 pub fn decimal_parts(word: &[u8]) -> Option<Decimal>
@@ -47,18 +48,6 @@ pub fn has_digit(before: usize, behind: usize) -> bool
     ensures { result ≡ nat_lt 0 (before + behind) }
 {
     before > 0 || behind > 0
-}
-
-/// Whether a `-` stands at the front, and what follows a sign.
-pub fn sign(text: &[u8]) -> (bool, &[u8])
-    ensures minus { result.0 ≡ starts_minus text.now }
-    ensures rest { result.1.now ≡ past_sign text.now }
-{
-    match text.split_first() {
-        Some((b'-', rest)) => (true, rest),
-        Some((b'+', rest)) => (false, rest),
-        _ => (false, text),
-    }
 }
 
 /// The number with the digits behind a point added to it, how many they are, and what follows.

@@ -1,72 +1,67 @@
-//! Decimals as nearly all files write them: of few bytes and without an exponent. Their digits fit 64 bits, so none is
-//! tested for room.
+//! Decimals as nearly all files write them: their digits fit 64 bits, and no exponent follows.
 
-ghost use Rattle.std.specs.Prelude.{◌≡◌, ◌<◌, IfSome, length, []};
+ghost use Rattle.std.specs.Prelude.{◌≡◌, ◌<◌, IfSome, length};
 ghost use Rattle.text_words.specs.Numbers.{value_after};
-ghost use Rattle.decimals.specs.Decimals.{digits_of, past_digits, fraction_of, past_fraction};
-ghost use Rattle.decimals.specs.Rounding.{IsReadAs, HasRoom};
+ghost use Rattle.decimals.specs.Decimals.{fraction_of, past_fraction};
+ghost use Rattle.decimals.specs.Rounding.{IsReadAs, IsFront};
 
 use crate::decimal::Decimal;
-use crate::limits::{FEW, FEW_DIGITS};
-use crate::parts::{has_digit, sign};
-use text_words::is_digit;
+use crate::limits::FEW;
+use crate::parts::has_digit;
+use text_words::{digits, sign};
 
 /// The parts of a short decimal. `None` says nothing of the word.
 pub fn short_parts(word: &[u8]) -> Option<Decimal>
     ensures { IfSome result (IsReadAs word.now) }
 {
-    if word.len() > FEW_DIGITS {
+    let (decimal, rest) = short_front(word)?;
+    if !rest.is_empty() {
         return None;
     }
-    let (minus, body) = sign(word);
-    let (whole, behind) = short_digits(0, body);
-    let (mantissa, places) = short_fraction(whole, behind)?;
+    Some(decimal)
+}
+
+/// The parts of the short decimal that a text begins with, and what follows it. `None` says nothing of the text.
+#[inline(always)]
+pub fn short_front(text: &[u8]) -> Option<(Decimal, &[u8])>
+    ensures { IfSome result (λ r. IsFront text.now r.0 r.1.now) }
+{
+    let (minus, body) = sign(text);
+    let (whole, behind) = digits(0, body);
+    if whole >= FEW {
+        return None;
+    }
+    let (mantissa, places, rest) = short_fraction(whole, behind)?;
     if !has_digit(body.len() - behind.len(), places) {
         return None;
     }
-    Some(Decimal {
+    let decimal = Decimal {
         minus,
         mantissa: u128::from(mantissa),
         places,
         raised: 0,
         lowered: 0,
-    })
+    };
+    Some((decimal, rest))
 }
 
-/// The number with the digits behind a point added to it, and how many they are, where nothing follows them.
-fn short_fraction(whole: u64, text: &[u8]) -> Option<(u64, usize)>
-    requires { HasRoom whole text.now }
+/// The number with the digits behind a point added to it, how many they are, and what follows.
+#[inline(always)]
+fn short_fraction(whole: u64, text: &[u8]) -> Option<(u64, usize, &[u8])>
+    requires { whole < FEW }
     ensures value { IfSome result (λ r. r.0 ≡ value_after whole (fraction_of text.now)) }
     ensures count { IfSome result (λ r. r.1 ≡ length (fraction_of text.now)) }
-    ensures ends { IfSome result (λ r. past_fraction text.now ≡ []) }
+    ensures rest { IfSome result (λ r. r.2.now ≡ past_fraction text.now) }
     ensures few { IfSome result (λ r. r.0 < FEW) }
 {
     match text.split_first() {
-        None => Some((whole, 0)),
-        Some((b'.', rest)) => {
-            let (value, end) = short_digits(whole, rest);
-            if !end.is_empty() {
+        Some((b'.', behind)) => {
+            let (value, rest) = digits(whole, behind);
+            if value >= FEW {
                 return None;
             }
-            Some((value, rest.len()))
+            Some((value, behind.len() - rest.len(), rest))
         }
-        Some(_) => None,
+        _ => Some((whole, 0, text)),
     }
-}
-
-/// The number that the digits at the front write behind those of `before`, and what follows them.
-fn short_digits(before: u64, text: &[u8]) -> (u64, &[u8])
-    requires { HasRoom before text.now }
-    ensures value { result.0 ≡ value_after before (digits_of text.now) }
-    ensures rest { result.1.now ≡ past_digits text.now }
-    ensures room { HasRoom result.0 result.1.now }
-{
-    let mut value = before;
-    for (at, b) in text.iter().enumerate() {
-        if !is_digit(*b) {
-            return (value, &text[at..]);
-        }
-        value = value * 10 + u64::from(*b - b'0');
-    }
-    (value, &text[text.len()..])
 }

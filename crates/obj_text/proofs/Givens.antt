@@ -10,8 +10,7 @@ use Rattle.std.proofs.lemmas.Bool.Decides.{nat_tests}
 use Rattle.fixed_box.specs.World.{IsCoordinate, InWorld}
 use Rattle.fixed_box.specs.declared.shapes.Point.{Point}
 use Rattle.fixed_box.specs.declared.shapes.TheConstants.{HALF}
-use Rattle.text_words.specs.Numbers.{starts_minus, value_after}
-use Rattle.decimals.specs.Decimals.{digits_of, past_sign}
+use Rattle.text_words.specs.Numbers.{starts_minus, value_after, digits_of, past_sign}
 use Rattle.decimals.specs.Values.{grid_of}
 use Rattle.decimals.specs.declared.fault.NumberFault.{NumberFault}
 use Rattle.obj_text.specs.Meshes.{IsFaceOf}

@@ -1,5 +1,6 @@
 pub mod Fans
 pub mod PlainReferences
+pub mod PlainRows
 pub mod Givens
 pub mod FirstSeen
 pub mod Grouping

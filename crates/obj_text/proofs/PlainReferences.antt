@@ -1,13 +1,13 @@
 -- References in digits alone.
-use Rattle.std.proofs.Common.{◌≡◌, ℕ, Bool, true, false, List, [], ◌∷◌, ◌==◌, ◌||◌, ◌&&◌, cond, IsTrue, drop, refl, sym, ap, ◌∙◌, arith, Err}
+use Rattle.std.proofs.Common.{◌≡◌, ◌<◌, ◌≤◌, ◌+◌, ◌-◌, ◌*◌, ◌^◌, min, nat_lt, ℕ, Bool, true, false, List, [], ◌∷◌, ◌==◌, ◌||◌, ◌&&◌, cond, IsTrue, drop, refl, sym, ap, ◌∙◌, arith, Err}
 use Rattle.std.specs.List.{list_all}
 use Rattle.std.proofs.lemmas.Bool.Decides.{nat_tests}
 use Rattle.text_words.specs.Lines.{is_word}
-use Rattle.text_words.specs.Numbers.{is_digit, value_after}
+use Rattle.text_words.specs.Numbers.{is_digit, value_after, digits_of, past_digits, past_sign}
 use Rattle.text_words.specs.ThreeNumbers.{IsNumber, AreThreeNumbers}
-use Rattle.decimals.specs.Decimals.{digits_of, past_digits, past_sign}
 use Rattle.obj_text.specs.Rows.{position, position_of, at_most_two_parts}
 use Rattle.obj_text.specs.Steps.{all_three, first_corners_of}
+use Rattle.obj_text.specs.declared.limits.TheConstants.{GREATEST_NUMBER}
 use Rattle.obj_text.specs.declared.fault.Why.TheVariants.{BadReference}
 
 both : (x y : Bool) → (x && y) ≡ true → (x ≡ true) × (y ≡ true)
@@ -75,3 +75,25 @@ numbers_name vertices before a b c words rest p =
 -- the words behind three numbers
 pub behind_numbers : (a b c : ℕ) (words rest : List (List ℕ)) → AreThreeNumbers words a b c rest → rest ≡ drop 3 words
 behind_numbers a b c words rest p = sym (ap (drop 3) p.words_are)
+
+-- digits behind a number do not lessen it
+value_grows : (n : ℕ) (word : List ℕ) → n ≤ value_after n word
+value_grows n [] = omega arith
+value_grows n (b ∷ bs) = omega (arith, value_grows (n * 10 + (b - 48)) bs)
+
+cut_by : (a b : ℕ) (ds : List ℕ) (few : Bool) → nat_lt a (10 ^ 18) ≡ few → b ≡ value_after a ds → (a < 10 ^ 18 → a ≡ b)
+    → min b GREATEST_NUMBER ≡ min a GREATEST_NUMBER
+cut_by a b ds true e all whole =
+    let small : a < 10 ^ 18 = grind (arith, nat_tests, e) in
+    ap (λ n. min n GREATEST_NUMBER) (sym (whole small))
+cut_by a b ds false e all whole =
+    let large : 10 ^ 18 ≤ a = grind (arith, nat_tests, e) in
+    omega (arith, all, value_grows a ds, large)
+
+-- a number whose digits were read as far as they have room, cut off
+pub number_cut_off : (text rest : List ℕ) (number : ℕ)
+    → value_after 0 (digits_of text) ≡ value_after number (digits_of rest)
+    → (number < 10 ^ 18 → number ≡ value_after 0 (digits_of text))
+    → min (value_after 0 (digits_of text)) GREATEST_NUMBER ≡ min number GREATEST_NUMBER
+number_cut_off text rest number all whole =
+    cut_by number (value_after 0 (digits_of text)) (digits_of rest) (nat_lt number (10 ^ 18)) refl all whole

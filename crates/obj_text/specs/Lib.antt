@@ -3,6 +3,7 @@ pub mod Rows
 pub mod Groups
 pub mod Texts
 pub mod Steps
+pub mod PlainRows
 pub mod Parts
 pub mod Ahead
 pub mod Sections

@@ -4,8 +4,7 @@ use Rattle.std.specs.Str.{bytes_eq}
 use Rattle.fixed_box.specs.declared.shapes.Point.{Point}
 use Rattle.fixed_box.specs.declared.shapes.TheConstants.{HALF}
 use Rattle.text_words.specs.Lines.{is_word}
-use Rattle.text_words.specs.Numbers.{value_after, starts_minus}
-use Rattle.decimals.specs.Decimals.{digits_of, past_digits, past_sign}
+use Rattle.text_words.specs.Numbers.{value_after, starts_minus, digits_of, past_digits, past_sign}
 use Rattle.decimals.specs.Values.{grid_of}
 use Rattle.decimals.specs.declared.fault.NumberFault.{NumberFault}
 use Rattle.obj_text.specs.declared.face.Face.{Face}

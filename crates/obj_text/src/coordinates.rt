@@ -27,7 +27,7 @@ fn coordinate(word: &[u8], unit: u32) -> Result<i32, Why>
     }
 }
 
-fn in_world(steps: i64) -> Result<i32, Why>
+pub fn in_world(steps: i64) -> Result<i32, Why>
     ensures { result ≡ in_world steps }
 {
     if steps < -i64::from(HALF) || steps >= i64::from(HALF) {

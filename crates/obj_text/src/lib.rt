@@ -15,6 +15,7 @@ mod line_fault;
 mod mesh;
 mod name_bytes;
 mod part;
+mod plain_rows;
 mod read;
 mod references;
 mod rows;

@@ -12,6 +12,7 @@ use crate::groups::group_faces;
 use crate::limits::{GREATEST_NUMBER, MOST_BYTES};
 use crate::line_fault::LineFault;
 use crate::mesh::Mesh;
+use crate::plain_rows::read_plain;
 use crate::rows::read_line;
 use crate::vertex_count::VertexCount;
 use fixed_box::{Point, UNIT_MAX};
@@ -62,7 +63,15 @@ pub fn read_part<'a>(
     let mut runs = Vec::new(alloc);
     let mut in_runs = 0;
     let mut lines = JoinedLines::new(bytes);
-    while let Some(line) = lines.next_line() {
+    loop {
+        match read_plain(&mut lines, unit, vertices, before, &mut gathered) {
+            Ok(true) => continue,
+            Ok(false) => {}
+            Err(_) => return Err(MeshFault::Memory),
+        }
+        let Some(line) = lines.next_line() else {
+            break;
+        };
         let name = gathered.name;
         let renamed = match read_line(&mut lines, unit, vertices, before, &mut gathered) {
             Ok(renamed) => renamed,

@@ -2,14 +2,13 @@
 
 ghost use Rattle.std.specs.Prelude.{◌≡◌, ◌<◌, ◌≤◌, true, false, min, MatchOption, IsTrue};
 ghost use Rattle.text_words.specs.Lines.{is_word};
-ghost use Rattle.text_words.specs.Numbers.{is_digit, value_after, starts_minus};
-ghost use Rattle.decimals.specs.Decimals.{digits_of, past_digits, past_sign};
+ghost use Rattle.text_words.specs.Numbers.{is_digit, value_after, starts_minus, digits_of, past_digits, past_sign};
 ghost use Rattle.obj_text.specs.Rows.{has_part, past_part, at_most_one_part, at_most_two_parts, is_reference, position, position_of};
 
 use crate::fault::Why;
 use crate::limits::GREATEST_NUMBER;
 use crate::vertex_count::VertexCount;
-use text_words::is_digit;
+use text_words::{digits, is_digit, past_digits, sign};
 
 /// The position of the vertex that a word names, in a text with so many vertices, of which so many stand before its
 /// line.
@@ -59,15 +58,15 @@ fn reference(word: &[u8]) -> Option<(bool, u32)>
         × (number.0 ≡ starts_minus word.now)
         × (number.1 ≡ min (value_after 0 (digits_of (past_sign word.now))) GREATEST_NUMBER)) }
 {
-    let size = past_sign(word);
+    let (minus, size) = sign(word);
     if !starts_digit(size) {
         return None;
     }
-    let (number, rest) = digits(size);
+    let (number, rest) = cut_off_number(size);
     if !at_most_two_parts(rest) {
         return None;
     }
-    Some((starts_minus(word), number))
+    Some((minus, number))
 }
 
 fn at_most_two_parts(text: &[u8]) -> bool
@@ -104,29 +103,11 @@ fn past_part(text: &[u8]) -> &[u8]
     let [_, rest @ ..] = text else {
         return text;
     };
-    let size = past_sign(rest);
+    let (_minus, size) = sign(rest);
     if starts_digit(size) {
         past_digits(size)
     } else {
         rest
-    }
-}
-
-fn starts_minus(word: &[u8]) -> bool
-    ensures { result ≡ starts_minus word.now }
-{
-    match word.first() {
-        Some(b) => *b == b'-',
-        None => false,
-    }
-}
-
-fn past_sign(text: &[u8]) -> &[u8]
-    ensures { result.now ≡ past_sign text.now }
-{
-    match text.split_first() {
-        Some((b'-' | b'+', rest)) => rest,
-        _ => text,
     }
 }
 
@@ -139,28 +120,14 @@ fn starts_digit(text: &[u8]) -> bool
     }
 }
 
-fn past_digits(text: &[u8]) -> &[u8]
-    ensures { result.now ≡ past_digits text.now }
-{
-    for (at, b) in text.iter().enumerate() {
-        if !is_digit(*b) {
-            return &text[at..];
-        }
-    }
-    &text[text.len()..]
-}
-
 /// The number that the digits at the front write, cut off, and what follows them.
-fn digits(text: &[u8]) -> (u32, &[u8])
+fn cut_off_number(text: &[u8]) -> (u32, &[u8])
     ensures value { result.0 ≡ min (value_after 0 (digits_of text.now)) GREATEST_NUMBER }
     ensures rest { result.1.now ≡ past_digits text.now }
 {
-    let mut value = 0u64;
-    for (at, b) in text.iter().enumerate() {
-        if !is_digit(*b) {
-            return (value as u32, &text[at..]);
-        }
-        value = (value * 10 + u64::from(*b - b'0')).min(u64::from(GREATEST_NUMBER));
-    }
-    (value as u32, &text[text.len()..])
+    let (number, rest) = digits(0, text);
+    (
+        number.min(u64::from(GREATEST_NUMBER)) as u32,
+        past_digits(rest),
+    )
 }

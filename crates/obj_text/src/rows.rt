@@ -155,7 +155,7 @@ fn first_corners(
 }
 
 /// The corners that three numbers name.
-fn numbered_corners(
+pub fn numbered_corners(
     a: u32,
     b: u32,
     c: u32,

@@ -1,11 +1,11 @@
 -- The word that a line begins with, and what its digits write.
-use Rattle.std.proofs.Common.{◌≡◌, ◌<◌, ◌≤◌, ◌+◌, ◌-◌, ◌*◌, ℕ, zero, suc, Bool, true, false, ◌&&◌, List, [], ◌∷◌, IsTrue, length, take, slice_index_or, cond, filter, Option, Some, None, IfNone, refl, sym, ap, ◌∙◌, subst, arith}
+use Rattle.std.proofs.Common.{◌≡◌, ℕ, Bool, true, false, ◌&&◌, List, [], ◌∷◌, IsTrue, cond, filter, Option, Some, None, IfNone, refl, sym, ap, ◌∙◌, subst}
 use Rattle.std.specs.List.{list_all, slice_split, onto_first}
 use Rattle.text_words.specs.Lines.{is_blank, is_word, words_of}
 use Rattle.text_words.specs.Cuts.{front_of, IsPastBlanks}
-use Rattle.text_words.specs.Numbers.{is_digit, value_after}
+use Rattle.text_words.specs.Numbers.{is_digit}
 use Rattle.text_words.specs.ThreeNumbers.{IsSmallNumber, BeginSmall}
-use Rattle.text_words.proofs.Digits.{digit_not_blank}
+use Rattle.text_words.proofs.DigitWords.{digit_not_blank}
 
 both : (x y : Bool) → (x && y) ≡ true → (x ≡ true) × (y ≡ true)
 both true y e = (refl, e)
@@ -37,53 +37,6 @@ small_front (b ∷ bs) past p =
     ap (filter is_word) cut.1 ∙ ap (λ w. filter is_word (w ∷ cut.0)) front in
     let small = subst (BeginSmall 1) words p in
     subst IsSmallNumber (sym front) small.0
-
--- a byte that is neither digit nor blank, behind digits, is one of the word
-pub not_digits : (text : List ℕ) (at : ℕ) → at < length text → IsTrue (list_all is_digit (take at text))
-    → is_digit (slice_index_or text at 0) ≡ false → is_blank (slice_index_or text at 0) ≡ false
-    → IsTrue (list_all is_digit (front_of text)) → ⊥
-not_digits [] at some p d k q = omega (arith, some)
-not_digits (b ∷ bs) zero some p d k q =
-    let r = both (is_digit b) (list_all is_digit (front_of bs)) (sym (ap (list_all is_digit) (front_more b bs k)) ∙ q) in
-    let no : true ≡ false = sym r.0 ∙ d in
-    absurd (cc)
-not_digits (b ∷ bs) (suc at) some p d k q =
-    let here = both (is_digit b) (list_all is_digit (take at bs)) p in
-    let r = both (is_digit b) (list_all is_digit (front_of bs))
-    (sym (ap (list_all is_digit) (front_more b bs (digit_not_blank b here.0))) ∙ q) in
-    not_digits bs at (omega (arith, some)) here.1 d k r.1
-
-none_by : (b : ℕ) (bs : List ℕ) (k : Bool) → is_blank b ≡ k → is_digit b ≡ false
-    → IsSmallNumber (front_of (b ∷ bs)) → ⊥
-none_by b bs true e d p =
-    let front : front_of (b ∷ bs) ≡ [] = ap (λ k. cond k [] (b ∷ front_of bs)) e in
-    omega (arith, ap length front, p.some)
-none_by b bs false e d p = not_digits (b ∷ bs) 0 (omega arith) refl d e p.digits
-
--- a line that does not begin with a digit begins with no number
-pub no_digit : (text : List ℕ) (at : ℕ) → at < length text → at ≡ 0 → is_digit (slice_index_or text at 0) ≡ false
-    → IsSmallNumber (front_of text) → ⊥
-no_digit [] at some e d p = omega (arith, some)
-no_digit (b ∷ bs) zero some e d p = none_by b bs (is_blank b) refl d p
-no_digit (b ∷ bs) (suc at) some e d p = omega (arith, e)
-
--- digits behind a number do not lessen it
-value_grows : (n : ℕ) (word : List ℕ) → n ≤ value_after n word
-value_grows n [] = omega arith
-value_grows n (b ∷ bs) = omega (arith, value_grows (n * 10 + (b - 48)) bs)
-
--- one digit more makes the number tenfold at least
-pub tenfold : (n : ℕ) (text : List ℕ) (at : ℕ) → at < length text → IsTrue (list_all is_digit (take at text))
-    → is_digit (slice_index_or text at 0) ≡ true
-    → value_after n (take at text) * 10 ≤ value_after n (front_of text)
-tenfold n [] at some p d = absurd (omega (arith, some))
-tenfold n (b ∷ bs) zero some p d =
-    let front = ap (value_after n) (front_more b bs (digit_not_blank b d)) in
-    omega (arith, front, value_grows (n * 10 + (b - 48)) (front_of bs))
-tenfold n (b ∷ bs) (suc at) some p d =
-    let here = both (is_digit b) (list_all is_digit (take at bs)) p in
-    let front = ap (value_after n) (front_more b bs (digit_not_blank b here.0)) in
-    omega (arith, front, tenfold (n * 10 + (b - 48)) bs at (omega (arith, some)) here.1 d)
 
 -- digits have no blank behind them
 pub front_all : (word : List ℕ) → IsTrue (list_all is_digit word) → front_of word ≡ word

@@ -1,9 +1,11 @@
 pub mod Cuts
 pub mod Joining
 pub mod Plain
+pub mod PlainLines
 pub mod Spaces
 pub mod FirstBytes
-pub mod Digits
+pub mod DigitWords
+pub mod DigitRuns
 pub mod Fronts
 pub mod Endings
 pub mod Halving

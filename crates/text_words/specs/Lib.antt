@@ -4,4 +4,5 @@ pub mod Numbers
 pub mod ThreeNumbers
 pub mod Cuts
 pub mod Parts
+pub mod PlainLines
 pub mod Halves

@@ -1,8 +1,9 @@
 //! The joined lines of a text, and their words. A word never goes across a join, so each is lent from the text, and no
 //! joined line is ever put together.
 
-ghost use Rattle.std.specs.Prelude.{◌≡◌, ◌<◌, ◌∷◌, ◌^◌, [], length, MatchOption, IfNone};
-ghost use Rattle.text_words.specs.Joins.{said, joins, is_line_end, joined_lines_of};
+ghost use Rattle.std.specs.Prelude.{◌≡◌, ◌<◌, ◌+◌, ◌∷◌, ◌^◌, [], length, MatchOption, IfNone, IfSome};
+ghost use Rattle.text_words.specs.Lines.{lines_of};
+ghost use Rattle.text_words.specs.Joins.{said, joins, is_line_end, joined_lines, joined_lines_of};
 ghost use Rattle.text_words.specs.ThreeNumbers.{AreThreeNumbers, BeginSmall};
 
 use crate::lines::Lines;
@@ -41,12 +42,35 @@ impl<'a> JoinedLines<'a> {
         ensures words { result.words ≡ [] }
         ensures later { result.later ≡ joined_lines_of text.now }
     {
+        JoinedLines::behind_lines(0, text)
+    }
+
+    /// The joined lines of a text that stands behind so many lines, with none at hand.
+    #[inline(always)]
+    pub fn behind_lines(number: u32, text: &'a [u8]) -> JoinedLines<'a>
+        requires { number + length (lines_of text.now) < 2 ^ 32 }
+        ensures words { result.words ≡ [] }
+        ensures later { result.later ≡ joined_lines (number + 1) (lines_of text.now) }
+    {
         JoinedLines {
             words: Words::new(&text[..0]),
             joins: false,
             lines: Lines::new(text),
-            number: 0,
+            number,
         }
+    }
+
+    /// The text behind the line at hand, and behind how many lines it stands. `None` where the line at hand may go on
+    /// in it.
+    #[inline(always)]
+    pub fn text_behind(&self) -> Option<(u32, &'a [u8])>
+        ensures later { IfSome result (λ parts. self.now.later ≡ joined_lines (parts.0 + 1) (lines_of parts.1.now)) }
+        ensures few { IfSome result (λ parts. parts.0 + length (lines_of parts.1.now) < 2 ^ 32) }
+    {
+        if self.joins {
+            return None;
+        }
+        Some((self.number, self.lines.text()))
     }
 
     /// Goes on to the next joined line, and answers the number of its first line, counted from 1.

@@ -4,15 +4,17 @@
 #![tactic(auto)]
 
 mod cutting;
+mod digit_runs;
 mod joins;
 mod lines;
 mod numbers;
 mod words;
 
 pub use cutting::halves;
+pub use digit_runs::{DIGITS_END, digits, is_digit, past_digits, sign, starts_minus};
 pub use joins::JoinedLines;
 pub use lines::{Lines, first_line};
-pub use numbers::is_digit;
+pub use numbers::leading_number;
 pub use words::{Words, first_word};
 
 #[cfg(test)]

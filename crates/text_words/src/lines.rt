@@ -39,6 +39,14 @@ impl<'a> Lines<'a> {
         Lines { rest: self.rest }
     }
 
+    /// The text that is still to be read.
+    #[inline(always)]
+    pub(crate) fn text(&self) -> &'a [u8]
+        ensures { self.now ≡ lines_of result.now }
+    {
+        self.rest
+    }
+
     /// The next line, without its line feed.
     pub fn next(&mut self) -> Option<&'a [u8]>
         ensures { MatchOption result ((self.old ≡ []) × (self.new ≡ [])) (λ line. self.old ≡ line.now ∷ self.new) }

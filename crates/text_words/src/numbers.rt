@@ -1,15 +1,16 @@
 //! A number in digits alone at the front of a line, cut off and valued in one pass over its bytes.
 
-ghost use Rattle.std.specs.Prelude.{◌≡◌, ◌∷◌, [], MatchOption, IfSome, IfNone};
+ghost use Rattle.std.specs.Prelude.{◌≡◌, ◌↔◌, ◌∷◌, ◌++◌, [], IsTrue, MatchOption, IfSome, IfNone};
 ghost use Rattle.text_words.specs.Lines.{words_of};
-ghost use Rattle.text_words.specs.Cuts.{IsCut, IsPastBlanks, front_of};
-ghost use Rattle.text_words.specs.Numbers.{is_digit};
+ghost use Rattle.text_words.specs.Cuts.{IsCut, IsBroken, IsPastBlanks, front_of};
+ghost use Rattle.text_words.specs.Numbers.{digits_of, past_digits};
 ghost use Rattle.text_words.specs.ThreeNumbers.{IsNumber, IsSmallNumber, BeginSmall};
 
+use crate::digit_runs::digits;
 use crate::words::is_blank;
 
-/// A number has room for one more digit below this one.
-const ROOM: u32 = 100_000_000;
+/// Numbers below this, 10^9, are taken at once.
+const SMALL_END: u64 = 1_000_000_000;
 
 /// The number in the first word of a line, that word, and what follows it. `None` where there is no word, or it is not
 /// digits alone, or the number is not below 10^9.
@@ -38,30 +39,51 @@ fn past_blanks(line: &[u8]) -> &[u8]
     rest
 }
 
-/// The number that a line begins with, its word, and what follows it.
+/// The number that digits at the front of a text write, their word, and what follows it. `None` where no digit stands
+/// there, and where the number is not below 10^9.
+#[inline(always)]
+pub fn leading_number(text: &[u8]) -> Option<(u32, &[u8], &[u8])>
+    ensures number { IfSome result (λ parts. IsNumber parts.1.now parts.0) }
+    ensures whole { IfSome result (λ parts. text.now ≡ parts.1.now ++ parts.2.now) }
+    ensures rest { IfSome result (λ parts. parts.2.now ≡ past_digits text.now) }
+    ensures none { IfNone result (IsSmallNumber (digits_of text.now) → ⊥) }
+{
+    let (value, rest) = digits(0, text);
+    if value >= SMALL_END {
+        return None;
+    }
+    let count = text.len() - rest.len();
+    if count == 0 {
+        return None;
+    }
+    Some((value as u32, &text[..count], rest))
+}
+
+/// The number that a line begins with, its word, and what follows it, which begins with a blank where it is there.
 #[inline(always)]
 fn cut_number(line: &[u8]) -> Option<(u32, &[u8], &[u8])>
     ensures number { IfSome result (λ parts. IsNumber parts.1.now parts.0) }
     ensures cut { IfSome result (λ parts. IsCut line.now parts.1.now parts.2.now) }
     ensures none { IfNone result (IsSmallNumber (front_of line.now) → ⊥) }
 {
-    let mut value = 0u32;
-    for (at, b) in line.iter().enumerate() {
-        if !is_digit(*b) {
-            if at == 0 || !is_blank(*b) {
-                return None;
-            }
-            return Some((value, &line[..at], &line[at..]));
-        }
-        if value >= ROOM {
-            return None;
-        }
-        value = value * 10 + u32::from(*b - b'0');
-    }
-    if line.is_empty() {
+    let Some((value, word, rest)) = leading_number(line) else {
+        return None;
+    };
+    if !is_broken(rest) {
         return None;
     }
-    Some((value, line, &line[line.len()..]))
+    Some((value, word, rest))
+}
+
+/// Whether a word ends before this: nothing follows, or a blank.
+#[inline(always)]
+fn is_broken(rest: &[u8]) -> bool
+    ensures { IsTrue result ↔ IsBroken rest.now }
+{
+    match rest.first() {
+        Some(b) => is_blank(*b),
+        None => true,
+    }
 }
 
 /// The number that a word writes, on the same terms.
@@ -75,12 +97,4 @@ pub(crate) fn number_of(word: &[u8]) -> Option<u32>
         return None;
     }
     Some(number)
-}
-
-/// Whether the byte is one of the digits `0` to `9`.
-#[inline(always)]
-pub fn is_digit(b: u8) -> bool
-    ensures { result ≡ is_digit b }
-{
-    b'0' <= b && b <= b'9'
 }

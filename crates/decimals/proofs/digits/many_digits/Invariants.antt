@@ -1,6 +1,5 @@
 use Rattle.std.proofs.Common.{◌≡◌, ◌≤◌, drop, min}
-use Rattle.text_words.specs.Numbers.{value_after}
-use Rattle.decimals.specs.Decimals.{digits_of, past_digits}
+use Rattle.text_words.specs.Numbers.{value_after, digits_of, past_digits}
 use Rattle.decimals.specs.declared.limits.TheConstants.{PAST_MOST_DIGITS}
 use Rattle.decimals.proofs.digits.many_digits.Given as goal
 

@@ -5,8 +5,8 @@ use Rattle.obj_text.specs.Parts.{names_of}
 use Rattle.obj_text.proofs.Readings.{IsReadUpTo}
 use Rattle.obj_text.proofs.part.read_part.Given as goal
 
-abbrev pub invariant-loop-line : goal.invariant-loop-line
-invariant-loop-line l = record {
+abbrev pub invariant-loop-runs : goal.invariant-loop-runs
+invariant-loop-runs l = record {
   read : IsReadUpTo l.unit l.fn.vertices l.before l.name (joined_lines_of l.bytes) l.lines.later
       l.gathered.points.items l.gathered.faces.items
       (names_of l.runs.items ++ replicate (length l.gathered.faces.items - l.in_runs) l.gathered.name.now)
@@ -15,5 +15,5 @@ invariant-loop-line l = record {
   vertices : l.vertices ≡ l.fn.vertices;
 }
 
-abbrev pub decreases-loop-line : goal.decreases-loop-line
-decreases-loop-line l = length l.lines.later
+abbrev pub decreases-loop-runs : goal.decreases-loop-runs
+decreases-loop-runs l = length l.lines.later

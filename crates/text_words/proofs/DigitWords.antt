@@ -1,11 +1,11 @@
 -- A word of digits alone, read digit by digit.
-use Rattle.std.proofs.Common.{◌≡◌, ◌<◌, ◌+◌, ◌-◌, ◌*◌, ℕ, zero, suc, Bool, true, false, not, ◌&&◌, List, [], ◌∷◌, IsTrue, length, take, slice_index_or, refl, ap, ◌∙◌, arith}
+use Rattle.std.proofs.Common.{◌≡◌, ℕ, Bool, true, false, not, ◌&&◌, List, [], ◌∷◌, IsTrue, refl, ap, ◌∙◌, arith}
 use Rattle.std.specs.List.{list_all}
 use Rattle.std.proofs.lemmas.Bool.Decides.{nat_tests}
 use Rattle.text_words.specs.Lines.{is_blank}
 use Rattle.text_words.specs.Joins.{JoinedLine}
 use Rattle.text_words.specs.Parts.{left_of}
-use Rattle.text_words.specs.Numbers.{is_digit, value_after}
+use Rattle.text_words.specs.Numbers.{is_digit}
 use Rattle.text_words.specs.ThreeNumbers.{AreThreeNumbers}
 use Rattle.text_words.proofs.Joining.{word_left}
 
@@ -31,19 +31,6 @@ digits_unbroken [] p = p
 digits_unbroken (b ∷ bs) p =
     let q = both (is_digit b) (list_all is_digit bs) p in
     not_blank (is_blank b) (list_all (λ c. not (is_blank c)) bs) (digit_not_blank b q.0) (digits_unbroken bs q.1)
-
-value_next : (n : ℕ) (text : List ℕ) (at : ℕ) → at < length text
-    → value_after n (take (suc at) text) ≡ value_after n (take at text) * 10 + (slice_index_or text at 0 - 48)
-value_next n [] at some = absurd (omega (arith, some))
-value_next n (b ∷ bs) zero some = refl
-value_next n (b ∷ bs) (suc at) some = value_next (n * 10 + (b - 48)) bs at (omega (arith, some))
-
--- the number that one digit more writes
-pub one_digit_more : (text : List ℕ) (at : ℕ) → at < length text
-    → value_after 0 (take (at + 1) text) ≡ value_after 0 (take at text) * 10 + (slice_index_or text at 0 - 48)
-one_digit_more text at some =
-    let next : at + 1 ≡ suc at = omega arith in
-    ap (λ k. value_after 0 (take k text)) next ∙ value_next 0 text at some
 
 -- three words of the line at hand are the first of those that are left
 pub numbers_left : (k : Bool) (all : List (List ℕ)) (a b c : ℕ) (words : List (List ℕ)) (later : List JoinedLine)
