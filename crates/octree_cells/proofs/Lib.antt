@@ -5,6 +5,5 @@ pub mod CellLaws
 pub mod SharedBits
 pub mod EdgeLaws
 pub mod Walking
-pub mod Tails
-pub mod EdgeSums
+pub mod Beginnings
 mod Examples

@@ -15,7 +15,7 @@ use Rattle.octree_cells.proofs.Prefixes.{prefixes_differ, prefix_from_shared, sh
 use Rattle.octree_cells.proofs.Runs.{IsRun}
 
 -- so many positions and then others
-cells_from-add : (keys : List Key) (level i m n : ℕ) →
+pub cells_from-add : (keys : List Key) (level i m n : ℕ) →
     cells_from keys level i (m + n) ≡ cells_from keys level i m ++ cells_from keys level (i + m) n
 unfolding cells_from
 cells_from-add keys level i zero n =

@@ -114,7 +114,7 @@ module _ (keys : List Key) (ok : IsLawful keys) (level : ℕ) (deep : level ≤ 
   new_at i = keys_with level (prefix_at keys level i) (take i keys) == 0
 
   -- a run of two or more begins a cell
-  cell_begins : a < b → is_cell_at keys level a ≡ true
+  pub cell_begins : a < b → is_cell_at keys level a ≡ true
   unfolding is_cell_at
   cell_begins lt = and_from (had_by_two a) (new_at a)
       (lt-ltb 1 (keys_with level (prefix_at keys level a) keys) (omega (arith, count_all)))
@@ -122,7 +122,7 @@ module _ (keys : List Key) (ok : IsLawful keys) (level : ℕ) (deep : level ≤ 
       (omega (arith, count_to a (omega (arith, run.order, run.within)))))
 
   -- one key does not
-  none_begins : a ≡ b → is_cell_at keys level a ≡ false
+  pub none_begins : a ≡ b → is_cell_at keys level a ≡ false
   unfolding is_cell_at
   none_begins e = and_left (had_by_two a) (new_at a)
       (le-ltb 1 (keys_with level (prefix_at keys level a) keys) (omega (arith, count_all)))

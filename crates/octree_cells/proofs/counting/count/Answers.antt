@@ -1,22 +1,56 @@
-use Rattle.std.proofs.Common.{length, sym, ap, ◌∙◌, arith}
-use Rattle.std.proofs.lemmas.Bool.{eqb-true, eqb-false}
-use Rattle.octree_cells.proofs.EdgeSums.{no_node_no_cell, row_read, total_is}
+use Rattle.std.proofs.Common.{◌≡◌, ℕ, ◌+◌, ◌-◌, ◌<◌, suc, length, sym, ap, ◌∙◌, subst, arith}
+use Rattle.morton_key.specs.declared.keys.TheConstants.{LEVELS}
+use Rattle.morton_key.specs.Keys.{IsLawful}
+use Rattle.octree_cells.specs.CellsOf.{cell_count_of}
+use Rattle.octree_cells.specs.Edges.{shared_level}
+use Rattle.octree_cells.proofs.Beginnings.{levels_at, begun, levels-first, begun-none, levels-between, pair_step, begun-but_last}
 use Rattle.octree_cells.proofs.counting.count.Goals as goal
 
-pub returns-then-is_empty : goal.returns-then-is_empty
-returns-then-is_empty c =
-    let none = eqb-true (length c.nodes-nodes.result.now) 0 (sym c.is_empty.ensures ∙ c.if-is_empty.true) in
-    sym (no_node_no_cell c.args.t.now c.nodes-nodes.ensures.table (sym (ap length c.nodes-nodes.ensures.nodes) ∙ none))
+pub loop-i-init : goal.loop-i-init
+loop-i-init c =
+    let keys = c.keys-keys.result.now in
+    record { sum = sym (begun-none keys LEVELS); own = sym (levels-first keys); few = omega arith; end = omega arith }
 
-pub levels_of-requires-clause-row : goal.levels_of-requires-clause-row
-levels_of-requires-clause-row c =
-    row_read c.args.t.now c.nodes-nodes.ensures.table c.keys-keys.result.now c.nodes-nodes.result.now
-    c.keys-keys.ensures.keys c.nodes-nodes.ensures.nodes c.loop-node.node-index c.node-item.result c.loop-node-test.true
-    c.node-item.is
+pub loop-i-preserved : goal.loop-i-preserved
+loop-i-preserved c =
+    let keys = c.keys-keys.result.now in
+    let ok = subst IsLawful (sym c.keys-keys.ensures.keys) c.keys-keys.ensures.table.lawful in
+    let before : ℕ = c.loop-i.i - 1 in
+    let here : suc before ≡ c.loop-i.i = omega (arith, c.loop-i.auto.i) in
+    let next : c.loop-i.i + 1 - 1 ≡ suc before = omega arith in
+    let inside : suc before < length keys = omega (arith, c.loop-i-test.true) in
+    let shared = c.shared_level-levels.ensures.value ∙ sym (ap (shared_level keys before) here) in
+    record {
+      sum = omega (
+        arith,
+        ap (begun keys LEVELS) next,
+        pair_step keys ok before inside,
+        shared,
+        c.loop-i.invariant.sum,
+        c.loop-i.invariant.own,
+        c.saturating_sub.ensures,
+        c.from-total.ensures,
+      );
+      own = omega (arith, ap (levels_at keys) next, levels-between keys before inside, shared);
+      few = omega (
+        arith,
+        c.loop-i.invariant.few,
+        c.shared_level-levels.ensures.most,
+        c.saturating_sub.ensures,
+        c.from-total.ensures,
+      );
+      end = omega (arith, c.loop-i-test.true);
+    }
 
 pub returns : goal.returns
 returns c =
-    let some = eqb-false (length c.nodes-nodes.result.now) 0 (sym c.is_empty.ensures ∙ c.if-is_empty.false) in
-    total_is c.args.t.now c.nodes-nodes.ensures.table c.keys-keys.result.now c.nodes-nodes.result.now
-    c.keys-keys.ensures.keys c.nodes-nodes.ensures.nodes c.loop-node.node-index c.loop-node.total (omega (arith, some))
-    c.loop-node-test.false c.loop-node.invariant.sum
+    let keys = c.keys-keys.result.now in
+    let ok = subst IsLawful (sym c.keys-keys.ensures.keys) c.keys-keys.ensures.table.lawful in
+    let last : c.loop-i.i - 1 ≡ length keys - 1 = omega (
+      arith,
+      c.loop-i.auto.i,
+      c.loop-i.invariant.end,
+      c.loop-i-test.false,
+    ) in
+    c.loop-i.invariant.sum
+    ∙ (ap (begun keys LEVELS) last ∙ (begun-but_last keys ok ∙ ap cell_count_of c.keys-keys.ensures.keys))

@@ -1,12 +1,12 @@
-use Rattle.std.proofs.Common.{◌≡◌, ◌+◌, ◌-◌, ◌*◌, ◌≤◌, length, take}
-use Rattle.std.specs.Prelude.{sum_by}
+use Rattle.std.proofs.Common.{◌≡◌, ◌+◌, ◌-◌, ◌*◌, ◌≤◌, length}
 use Rattle.morton_key.specs.declared.keys.TheConstants.{LEVELS}
-use Rattle.octree_cells.specs.Edges.{shared_level, node_levels}
+use Rattle.octree_cells.proofs.Beginnings.{levels_at, begun}
 use Rattle.octree_cells.proofs.counting.count.Given as goal
 
-abbrev pub invariant-loop-node : goal.invariant-loop-node
-invariant-loop-node l = record {
-  sum : l.total ≡ 1 + shared_level l.keys 0 (length l.keys - 1)
-      + sum_by (node_levels l.keys) (take l.node-index l.nodes);
-  few : l.total ≤ 1 + LEVELS + 2 * LEVELS * l.node-index;
+abbrev pub invariant-loop-i : goal.invariant-loop-i
+invariant-loop-i l = record {
+  sum : l.total ≡ begun l.keys LEVELS (l.i - 1);
+  own : l.before ≡ levels_at l.keys (l.i - 1);
+  few : l.total ≤ (1 + LEVELS) * l.i;
+  end : l.i ≤ 1 + (length l.keys - 1);
 }
