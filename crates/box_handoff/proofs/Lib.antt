@@ -1,4 +1,6 @@
 pub mod FrameOf
+pub mod SplitLists
+pub mod NumberLaws
 pub mod PackLaws
 pub mod WholeFrame
 pub mod EndLaws

@@ -1,6 +1,7 @@
 //! Every seat of a handoff driven by a thread.
 ghost use Rattle.std.specs.Prelude.{◌≡◌, ◌<◌, ◌≤◌, ℕ, length, All, IfOk, slice_index_or};
 ghost use Rattle.morton_key.specs.Keys.{IsLawful};
+ghost use Rattle.arrival_core.specs.declared.packets.TheConstants.{MOST_WORKERS};
 ghost use Rattle.box_handoff.specs.Packets.{AreFitted};
 ghost use Rattle.box_handoff.specs.Counts.{IsCounted};
 ghost use Rattle.box_handoff.specs.Seats.{given_by, AreFresh, AreAll};
@@ -83,7 +84,7 @@ pub fn fit<R: Threads + Sync, W: Ways, G: Gate>(
     requires two { 1 < length keys.now }
     requires count { length boxes.now ≡ length keys.now }
     requires some { 0 < workers }
-    requires few { workers ≤ 64 }
+    requires few { workers ≤ MOST_WORKERS }
     requires ways { W.stands ways.now keys.now }
     ensures packets { IfOk result (λ r. AreFitted keys.now boxes.now r) }
     ensures counts { IfOk result (λ r. IsCounted (length keys.now) workers r.tally) }

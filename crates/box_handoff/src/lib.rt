@@ -9,6 +9,7 @@ mod fitted;
 mod gathering;
 mod handoffs;
 mod making;
+mod numbering;
 mod passing;
 mod plays;
 mod seats;
