@@ -20,7 +20,7 @@ place_else : (x : ℕ) (xs : List ℕ) (t : ℕ) → x ≢ t → place_in (x ∷
 unfolding place_in
 place_else x xs t n = ap (λ (b : Bool). if b then 0 else suc (place_in xs t)) (ne_eqb x t n)
 
-at_place : (xs : List ℕ) (t : ℕ) → place_in xs t < length xs → slice_index xs (place_in xs t) ≡ t
+pub at_place : (xs : List ℕ) (t : ℕ) → place_in xs t < length xs → slice_index xs (place_in xs t) ≡ t
 at_place [] t h = absurd (omega arith)
 at_place (x ∷ xs) t h = ⊎_elim
     (λ (e : x ≡ t). ap (λ (n : ℕ). slice_index (x ∷ xs) n) (place_here x xs t e) ∙ e)

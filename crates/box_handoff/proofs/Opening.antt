@@ -29,7 +29,7 @@ use Rattle.box_handoff.proofs.NumberLaws.{numbered, count_none, number_none}
 use Rattle.box_handoff.proofs.WholeFrame.{all_live, whole_given}
 
 -- every word is 0
-word_zero : (n k : ℕ) → ◌≡◌ {A = ℕ} (get_or (replicate n 0) k 0) 0
+pub word_zero : (n k : ℕ) → ◌≡◌ {A = ℕ} (get_or (replicate n 0) k 0) 0
 word_zero zero k = refl
 word_zero (suc n) zero = refl
 word_zero (suc n) (suc k) = word_zero n k

@@ -7,6 +7,7 @@ pub mod Climbs
 pub mod Slots
 pub mod Rule
 pub mod Starting
+pub mod Laying
 pub mod Plays
 pub mod Cuts
 pub mod Made

@@ -1,10 +1,11 @@
-//! The three calls of a handoff.
+//! The calls of a handoff.
 ghost use Rattle.std.specs.Prelude.{◌≡◌, ◌<◌, ◌≤◌, ℕ, length, IfOk, true, false};
 ghost use Rattle.morton_key.specs.Keys.{IsLawful};
 ghost use Rattle.box_handoff.specs.Entries.{frame};
 ghost use Rattle.box_handoff.specs.Climbs.{Grew};
 ghost use Rattle.arrival_core.specs.declared.packets.TheConstants.{MOST_WORKERS};
-ghost use Rattle.arrival_core.specs.Tasks.{IsWhole};
+ghost use Rattle.arrival_core.specs.Settings.{setting};
+ghost use Rattle.arrival_core.specs.Tasks.{IsTask, IsWhole, FitsButFor};
 ghost use Rattle.box_handoff.specs.Packets.{AreFitted, AreLiveFitted};
 ghost use Rattle.box_handoff.specs.Counts.{IsCounted, IsLiveCounted};
 ghost use Rattle.box_handoff.specs.Seats.{given_by, setting_by, entry_of, IsSeatOf, IsOver, AreFresh, AreAll, IsSumOf};
@@ -13,7 +14,7 @@ use crate::climbing::{batches_of, climb_with};
 use crate::fitted::Fitted;
 use crate::gathering::{gather, read_out};
 use crate::handoffs::Handoff;
-use crate::making::{make_whole, seats_of, whole};
+use crate::making::{make_live, make_whole, seats_of, whole};
 use crate::numbering::count_of;
 use crate::seats::HandSeat;
 use crate::ways::Ways;
@@ -21,6 +22,7 @@ use crate::{Packet, Tally};
 use fixed_box::Box3;
 use morton_key::Key;
 use outside::{Gate, Memory};
+use radix_tree::Tree;
 use std::alloc::Global;
 
 impl<'a> Handoff<'a> {
@@ -44,6 +46,30 @@ impl<'a> Handoff<'a> {
     {
         let about = whole(alloc, keys, boxes, seats)?;
         let (handoff, first) = make_whole(alloc, about)?;
+        let seats = seats_of(&handoff, alloc, first)?;
+        Ok((handoff, seats))
+    }
+
+    /// A handoff over the live leaves alone, and its seats, numbered from 0, none of which has begun.
+    ///
+    /// `boxes[t - 1]` is the box of triangle `t`, and `live` are the positions whose boxes may have changed, rising, one
+    /// at least. The tree is fitted to some list of boxes that gives the triangle at every other position the same box.
+    /// It takes memory for a word for every 64 live leaves, for a word, two slots and a number for each live inner node,
+    /// and for the live positions.
+    pub fn partial(
+        alloc: Global,
+        tree: &'a Tree,
+        boxes: &'a [Box3],
+        live: &[u32],
+        seats: u32,
+    ) -> Result<(Handoff<'a>, Vec<HandSeat>), Memory>
+        requires task { IsTask (setting tree.now.keys boxes.now live.now seats) }
+        requires few { seats ≤ MOST_WORKERS }
+        requires rest { FitsButFor tree.now boxes.now live.now }
+        ensures over { IfOk result (λ r. setting_by r.0 ≡ setting tree.now.keys boxes.now live.now seats) }
+        ensures seats { IfOk result (λ r. AreFresh r.0 r.1.items) }
+    {
+        let (handoff, first) = make_live(alloc, tree, boxes, live, seats)?;
         let seats = seats_of(&handoff, alloc, first)?;
         Ok((handoff, seats))
     }

@@ -2,7 +2,8 @@
 //! entry away until it has one.
 ghost use Rattle.std.specs.Prelude.{◌≡◌, ◌<◌, ◌≤◌, ◌^◌, [], length, IfOk, suc, replicate, false, None};
 ghost use Rattle.morton_key.specs.Keys.{IsLawful};
-ghost use Rattle.arrival_core.specs.Tasks.{IsWhole};
+ghost use Rattle.arrival_core.specs.Settings.{setting};
+ghost use Rattle.arrival_core.specs.Tasks.{IsTask, IsWhole, FitsButFor};
 ghost use Rattle.box_handoff.specs.Made.{given_in};
 ghost use Rattle.arrival_core.specs.declared.packets.TheConstants.{MOST_WORKERS};
 ghost use Rattle.box_handoff.specs.Entries.{IsGiven, setting_of, given_of, frame, numbers, one, unbegun, unbegun_below, first_view};
@@ -10,11 +11,12 @@ ghost use Rattle.box_handoff.specs.Starting.{Starts};
 ghost use Rattle.box_handoff.specs.Slots.{blank};
 ghost use Rattle.box_handoff.specs.Made.{ArePositions};
 ghost use Rattle.box_handoff.specs.Gathering.{AreUnbegun};
-ghost use Rattle.box_handoff.specs.Seats.{id_of, given_by, IsHandoff};
+ghost use Rattle.box_handoff.specs.Seats.{id_of, given_by, setting_by, IsHandoff};
 
 use crate::Tally;
 use crate::climbing::batches_of;
 use crate::handoffs::Handoff;
+use crate::laying::{Laid, Moves, lay_down};
 use crate::plays::{HandTable, Parts, TableSeat};
 use crate::seats::HandSeat;
 use crate::slots::{SlotPacket, blank_slot};
@@ -23,6 +25,7 @@ use atomic_table::Table;
 use fixed_box::Box3;
 use morton_key::Key;
 use outside::Memory;
+use radix_tree::Tree;
 use std::alloc::{AllocError, Global};
 use std::snapshot::Snapshot;
 
@@ -102,10 +105,7 @@ pub fn make<'a>(
 }
 
 /// A table over all leaves: nothing is set, and no packet stands in a slot.
-pub fn make_whole<'a>(
-    alloc: Global,
-    about: About<'a>,
-) -> Result<(Handoff<'a>, TableSeat), Memory>
+pub fn make_whole<'a>(alloc: Global, about: About<'a>) -> Result<(Handoff<'a>, TableSeat), Memory>
     requires whole { IsWhole (setting_of (given_of about)) }
     requires spots { (given_of about).spots ≡ None }
     ensures made { IfOk result (λ r. IsHandoff r.0) }
@@ -117,6 +117,47 @@ pub fn make_whole<'a>(
     let words = zeros(alloc, batches + nodes)?;
     let slots = blank_slots(alloc, 2 * nodes)?;
     make(alloc, about, words, slots)
+}
+
+/// A table over the live nodes alone. What is not live rests in its place already.
+pub fn make_live<'a>(
+    alloc: Global,
+    tree: &'a Tree,
+    boxes: &'a [Box3],
+    live: &[u32],
+    seats: u32,
+) -> Result<(Handoff<'a>, TableSeat), Memory>
+    requires task { IsTask (setting tree.now.keys boxes.now live.now seats) }
+    requires few { seats ≤ MOST_WORKERS }
+    requires rest { FitsButFor tree.now boxes.now live.now }
+    ensures made { IfOk result (λ r. IsHandoff r.0) }
+    ensures setting { IfOk result (λ r. setting_by r.0 ≡ setting tree.now.keys boxes.now live.now seats) }
+    ensures seat { IfOk result (λ r. (r.1.table_id ≡ id_of r.0) × (r.1.me ≡ (first_view (given_by r.0), []))) }
+{
+    let keys = tree.keys();
+    let moves = Moves {
+        tree,
+        boxes,
+        live,
+        seats,
+    };
+    let Laid {
+        spots,
+        words,
+        slots,
+    } = lay_down(alloc, &moves)?;
+    let Ok(live) = Vec::from_slice(alloc, live) else {
+        return Err(Memory);
+    };
+    let about = About {
+        keys,
+        boxes,
+        live,
+        seats,
+        spots: Some(spots),
+    };
+    let (handoff, seat) = make(alloc, about, words, slots)?;
+    Ok((handoff, seat))
 }
 
 /// Splits off the last of the entries.
