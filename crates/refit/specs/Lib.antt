@@ -1,2 +1,4 @@
 pub mod Shapes
 pub mod Subtrees
+pub mod Counts
+pub mod Putting

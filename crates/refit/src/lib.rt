@@ -4,8 +4,10 @@
 //! built anew.
 #![tactic(auto)]
 
+mod handing_up;
 mod refitting;
 
+pub use handing_up::refit_by_threads;
 pub use refitting::refit;
 
 #[cfg(test)]
