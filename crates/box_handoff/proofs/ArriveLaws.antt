@@ -19,7 +19,8 @@ use Rattle.box_handoff.specs.declared.views.Event.TheVariants.{Arrive}
 use Rattle.box_handoff.specs.declared.views.Given.{Given}
 use Rattle.box_handoff.specs.declared.views.View.{View}
 use Rattle.box_handoff.specs.Slots.{packed}
-use Rattle.box_handoff.specs.Entries.{Numbers, Shown, numbers, one, frame, grown, after, moved, worker_of}
+use Rattle.box_handoff.specs.LiveNodes.{Shown}
+use Rattle.box_handoff.specs.Entries.{Numbers, numbers, one, frame, grown, after, moved, worker_of}
 use Rattle.box_handoff.specs.Rule.{Rule, Shows, full, bit_on, side_no, slot}
 use Rattle.box_handoff.specs.Plays.{Mine, mine, next_view, load_of, Arrived}
 use Rattle.box_handoff.proofs.Standing.{held_worker, phase_is, stands, few_after}

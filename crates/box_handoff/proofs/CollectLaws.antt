@@ -21,7 +21,8 @@ use Rattle.box_handoff.specs.declared.views.Event.TheVariants.{Collect}
 use Rattle.box_handoff.specs.declared.views.Given.{Given}
 use Rattle.box_handoff.specs.declared.views.View.{View}
 use Rattle.box_handoff.specs.Slots.{packed}
-use Rattle.box_handoff.specs.Entries.{Numbers, Shown, numbers, one, frame, grown, after, moved, worker_of}
+use Rattle.box_handoff.specs.LiveNodes.{Shown}
+use Rattle.box_handoff.specs.Entries.{Numbers, numbers, one, frame, grown, after, moved, worker_of}
 use Rattle.box_handoff.specs.Rule.{Rule, Shows, out, side_no, slot}
 use Rattle.box_handoff.specs.Plays.{Mine, mine, next_view, load_of, Collected}
 use Rattle.box_handoff.proofs.FrameOf.{met}

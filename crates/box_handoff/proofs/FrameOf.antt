@@ -35,8 +35,7 @@ use Rattle.arrival_core.specs.declared.packets.Packet.{Packet}
 use Rattle.arrival_core.specs.Settings.{row_of}
 use Rattle.arrival_core.proofs.WholeLaws as core
 use Rattle.box_handoff.specs.declared.views.Given.{Given}
-use Rattle.box_handoff.specs.Entries.{IsGiven, numbers, setting_of, frame}
-use Rattle.box_handoff.specs.Climbs.{IsCarried, IsPlace}
+use Rattle.box_handoff.specs.Entries.{IsGiven, setting_of, frame}
 
 -- what a climb rests on
 pub record FrameLaws (g : Given) : Type 0 where
@@ -64,7 +63,7 @@ module _ (g : Given) (ok : IsGiven g) where
   task : IsTask (setting_of g)
   task = ok.task
 
-  live_few : length g.live ≤ length g.keys
+  pub live_few : length g.live ≤ length g.keys
   live_few = rising_short g.live (length g.keys) task.rising task.within
 
   -- the frame of a handoff is lawful
@@ -91,7 +90,7 @@ module _ (g : Given) (ok : IsGiven g) where
   pub nodes_low : (frame g).nodes ≤ 2 ^ 20
   nodes_low = omega (arith, nodes_is, task.lawful.few)
 
-  batches_low : (frame g).batches ≤ 2 ^ 20
+  pub batches_low : (frame g).batches ≤ 2 ^ 20
   batches_low = omega (arith, batches_is, live_few, task.lawful.few)
 
   workers_low : (frame g).workers ≤ 64
@@ -168,17 +167,3 @@ module _ (g : Given) (ok : IsGiven g) where
   pub joined_in : (l : Load) (packet : Packet) → l.split < (frame g).nodes →
       packet ≡ (frame g).node_packet l.split → IsRange g.keys packet.first packet.last
   joined_in l packet lt is = subst (λ (x : Packet). IsRange g.keys x.first x.last) (sym is) (node_in l.split lt)
-
--- every node has a word
-pub count_is : (g : Given) → (numbers g).count ≡ (frame g).nodes
-unfolding numbers
-count_is g = refl
-
--- a node's word and places are at its split
-pub place_is : (g : Given) (l : Load) (place : ℕ) → IsCarried (frame g) l → place ≡ l.split → IsPlace g place l.split
-unfolding numbers
-place_is g l place carried is = record {
-  seen = (carried.node, carried.live);
-  number = is;
-  within = subst (λ (z : ℕ). z < (frame g).nodes) (sym is) carried.node;
-}

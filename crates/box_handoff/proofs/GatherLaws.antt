@@ -10,13 +10,12 @@ use Rattle.atomic_table.specs.Table.{Final, Seen}
 use Rattle.arrival_core.specs.declared.packets.Phase.TheVariants.{Ended}
 use Rattle.arrival_core.specs.Frames.{packet_at}
 use Rattle.arrival_core.specs.States.{Worker}
-use Rattle.arrival_core.specs.Tasks.{IsWhole}
 use Rattle.box_handoff.specs.declared.slots.SlotPacket.{SlotPacket}
 use Rattle.box_handoff.specs.declared.views.Given.{Given}
 use Rattle.box_handoff.specs.declared.views.View.{View}
 use Rattle.box_handoff.specs.declared.views.Entry.{Entry}
 use Rattle.box_handoff.specs.declared.seats.HandSeat.{HandSeat}
-use Rattle.box_handoff.specs.Entries.{setting_of, frame, numbers, In}
+use Rattle.box_handoff.specs.Entries.{frame, numbers, In}
 use Rattle.box_handoff.specs.Slots.{packed}
 use Rattle.box_handoff.specs.Cuts.{both_views}
 use Rattle.box_handoff.specs.Rule.{Rule, slot}
@@ -24,7 +23,6 @@ use Rattle.box_handoff.specs.declared.handoffs.Handoff.{Handoff}
 use Rattle.box_handoff.specs.Seats.{given_by, id_of, entry_of, AreAll}
 use Rattle.box_handoff.specs.Gathering.{HasEnded, Covers, AllEnded, AreKept}
 use Rattle.box_handoff.proofs.FrameOf.{completes}
-use Rattle.box_handoff.proofs.WholeFrame.{all_live_nodes}
 use Rattle.box_handoff.proofs.Rosters.{in_left, in_right, in_either}
 use Rattle.box_handoff.proofs.Roster.{in_one}
 use Rattle.box_handoff.proofs.Standing.{is_full, workers_are}
@@ -117,16 +115,15 @@ all_covered h old new x all e before now front kept_all last k lt =
     ])
 
 -- where all have ended, each slot keeps its child's packet
-pub kept : (g : Given) → IsWhole (setting_of g) → (id : ℕ) (v : View) (words : List ℕ) (slots : List SlotPacket) →
+pub kept : (g : Given) → (id : ℕ) (v : View) (words : List ℕ) (slots : List SlotPacket) →
     Final (Seen (Rule g) id v) words slots → ((k : ℕ) → k < g.seats → Covers k v) → AreKept g slots
-unfolding numbers
-kept g whole id v words slots fin all t d lt =
+kept g id v words slots fin all t d seen =
     let h : Rule g fin.0 = fin.1.0 in
     let ended : (k : ℕ) → k < (frame g).workers → (h.machine.worker k).phase ≡ Ended = λ k small.
     let c = all k (subst (λ (n : ℕ). k < n) (workers_are g) small) in
     ap (λ (n : ℕ). (h.machine.worker n).phase) (sym c.2)
     ∙ ap (λ (w : Worker). w.phase) (h.rostered.worker id v fin.1.1 c.0 c.1) ∙ c.3 in
-    let was = h.shows.places t d (lt, all_live_nodes g whole t lt) in
-    let stood = (completes g h.given h.machine h.lawful ended).places t d lt in
-    fin.4 (slot t d) (packed d (packet_at (frame g) t d))
+    let was = h.shows.places t d seen in
+    let stood = (completes g h.given h.machine h.lawful ended).places t d seen.0 in
+    fin.4 (slot ((numbers g).number t) d) (packed d (packet_at (frame g) t d))
     (was.1 ∙ ap some (is_full d was.0 (h.machine.place t d) (packet_at (frame g) t d) was.2 stood))

@@ -1,5 +1,8 @@
 pub mod FrameOf
+pub mod SplitLists
+pub mod NumberLaws
 pub mod PackLaws
+pub mod LayLaws
 pub mod WholeFrame
 pub mod EndLaws
 pub mod Roster
@@ -17,6 +20,7 @@ pub mod ClimbLaws
 pub mod LeafLaws
 pub mod BatchLaws
 pub mod Opening
+pub mod StartLaws
 pub mod Cutting
 pub mod GatherLaws
 pub mod ReadLaws

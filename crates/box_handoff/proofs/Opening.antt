@@ -1,5 +1,5 @@
 -- The table as it is made shows the start.
-use Rattle.std.proofs.Common.{◌≡◌, ◌≢◌, ℕ, zero, suc, ◌+◌, ◌*◌, ◌<◌, ◌≤◌, inl, ⊎_elim, Bool, true, false, cond, List, [], ◌∷◌, ◌++◌, map, length, replicate, get_or, sym, refl, ap, ◌∙◌, subst, arith, eqb, eq-eqb, ne_eqb}
+use Rattle.std.proofs.Common.{◌≡◌, ◌≢◌, ℕ, zero, suc, ◌+◌, ◌*◌, ◌<◌, ◌≤◌, inl, ⊎_elim, Bool, true, false, cond, List, [], ◌∷◌, ◌++◌, map, length, replicate, get_or, sym, refl, ap, ◌∙◌, subst, arith, eqb, eq-eqb, ne_eqb, None}
 use Rattle.std.specs.Prelude.{slice_index, not, if◌then◌else◌}
 use Rattle.std.proofs.lemmas.Nat.Bits.{bit_at-zero}
 use Rattle.std.proofs.lemmas.Bool.{cases_eq}
@@ -7,6 +7,7 @@ use mathlib.Core.Option.{Option as Maybe, some, some-injective, some-ne-none}
 use lib.ListN.{get_elem?}
 use Rattle.atomic_table.specs.Table.{opening}
 use Rattle.atomic_table.proofs.Lists.{at_snoc}
+use Rattle.arrival_core.specs.declared.packets.Packet.{Packet}
 use Rattle.arrival_core.specs.declared.packets.Place.TheVariants.{Nothing, Holds}
 use Rattle.arrival_core.specs.declared.packets.Side.{Side}
 use Rattle.arrival_core.specs.declared.packets.Side.TheVariants.{Left, Right}
@@ -19,14 +20,16 @@ use Rattle.box_handoff.specs.declared.views.Given.{Given}
 use Rattle.box_handoff.specs.declared.views.Entry.{Entry}
 use Rattle.box_handoff.specs.declared.views.View.{View}
 use Rattle.box_handoff.specs.Slots.{blank}
-use Rattle.box_handoff.specs.Entries.{numbers, setting_of, frame, first_view, unbegun, unbegun_below, after_all, worker_of, times, total, In}
-use Rattle.box_handoff.specs.Rule.{Rule, Rostered, AreTogether, Shows, empty, IsHonest, bit_on, side_no, slot}
+use Rattle.box_handoff.specs.Starting.{Starts, start_word, start_slot}
+use Rattle.box_handoff.specs.Entries.{IsGiven, numbers, setting_of, frame, first_view, unbegun, unbegun_below, after_all, worker_of, times, total, In}
+use Rattle.box_handoff.specs.Rule.{Rule, Rostered, AreTogether, Shows, ShowsPlace, empty, full, IsHonest, bit_on, side_no, slot}
 use Rattle.box_handoff.proofs.Roster.{total_append}
 use Rattle.box_handoff.proofs.FrameOf.{begins}
-use Rattle.box_handoff.proofs.WholeFrame.{all_live, all_live_nodes, whole_given, whole_numbered}
+use Rattle.box_handoff.proofs.NumberLaws.{numbered, count_none, number_none}
+use Rattle.box_handoff.proofs.WholeFrame.{all_live, whole_given}
 
 -- every word is 0
-word_zero : (n k : ℕ) → ◌≡◌ {A = ℕ} (get_or (replicate n 0) k 0) 0
+pub word_zero : (n k : ℕ) → ◌≡◌ {A = ℕ} (get_or (replicate n 0) k 0) 0
 word_zero zero k = refl
 word_zero (suc n) zero = refl
 word_zero (suc n) (suc k) = word_zero n k
@@ -42,20 +45,76 @@ length_map f [] = refl
 length_map f (x ∷ xs) = ap suc (length_map f xs)
 
 -- every slot is blank
-home_none : (n k : ℕ) → k < n → ◌≡◌ {A = Maybe (Maybe SlotPacket)} (get_elem? (map some (replicate n blank)) k)
-    (some (some blank))
-home_none zero k h = absurd (omega arith)
-home_none (suc n) zero h = refl
-home_none (suc n) (suc k) h = home_none n k (omega arith)
+slot_blank : (n k : ℕ) → k < n → ◌≡◌ {A = Maybe SlotPacket} (get_elem? (replicate n blank) k) (some blank)
+slot_blank zero k h = absurd (omega arith)
+slot_blank (suc n) zero h = refl
+slot_blank (suc n) (suc k) h = slot_blank n k (omega arith)
+
+-- what is in a slot is at home there
+home_some : (xs : List SlotPacket) (k : ℕ) (x : SlotPacket) → get_elem? xs k ≡ some x →
+    ◌≡◌ {A = Maybe (Maybe SlotPacket)} (get_elem? (map some xs) k) (some (some x))
+home_some [] k x h = absurd (some-ne-none x (sym h))
+home_some (y ∷ ys) zero x h = ap (λ (m : Maybe SlotPacket). some m) h
+home_some (y ∷ ys) (suc k) x h = home_some ys k x h
 
 -- no bit of 0 is set
 bit_zero : (j : ℕ) → bit_on 0 j ≡ false
 unfolding bit_on
 bit_zero j = ap (λ (x : ℕ). eqb x 1) (bit_at-zero j)
 
--- what is not live is off
-is_off : (b : Bool) → b ≡ true → not b ≡ false
-is_off b e = ap not e
+-- the bits of the word of a node as it starts
+abbrev of_side : Side → Bool → Bool → Bool
+of_side Left l r = l
+of_side Right l r = r
+
+live_of : (f : Frame) (t : ℕ) (d : Side) → live_at f t d ≡ of_side d (live_at f t Left) (live_at f t Right)
+live_of f t Left = refl
+live_of f t Right = refl
+
+open_bit : (l r : Bool) (d : Side) → not (of_side d l r) ≡ bit_on (start_word l r) (0 + side_no d)
+unfolding bit_on
+open_bit true true Left = refl
+open_bit true true Right = refl
+open_bit true false Left = refl
+open_bit true false Right = refl
+open_bit false true Left = refl
+open_bit false true Right = refl
+open_bit false false Left = refl
+open_bit false false Right = refl
+
+arrived_bit : (l r : Bool) (d : Side) → not (of_side d l r) ≡ bit_on (start_word l r) (2 + side_no d)
+unfolding bit_on
+arrived_bit true true Left = refl
+arrived_bit true true Right = refl
+arrived_bit true false Left = refl
+arrived_bit true false Right = refl
+arrived_bit false true Left = refl
+arrived_bit false true Right = refl
+arrived_bit false false Left = refl
+arrived_bit false false Right = refl
+
+collected_bit : (l r : Bool) (d : Side) → false ≡ bit_on (start_word l r) (4 + side_no d)
+unfolding bit_on
+collected_bit true true Left = refl
+collected_bit true true Right = refl
+collected_bit true false Left = refl
+collected_bit true false Right = refl
+collected_bit false true Left = refl
+collected_bit false true Right = refl
+collected_bit false false Left = refl
+collected_bit false false Right = refl
+
+returned_bit : (l r : Bool) → false ≡ bit_on (start_word l r) 6
+unfolding bit_on
+returned_bit true true = refl
+returned_bit true false = refl
+returned_bit false true = refl
+returned_bit false false = refl
+
+-- and its places
+placed : (d : Side) (b : Bool) (p : Packet) → ShowsPlace d (some (start_slot d b p)) (if b then Nothing else Holds p)
+placed d true p = empty
+placed d false p = full p
 
 -- an entry of those of the numbers below n
 pub in_below : (n : ℕ) (e : Entry) → In e (unbegun_below n) → (k : ℕ) × (k < n) × (e ≡ unbegun k)
@@ -89,19 +148,19 @@ times_once i (suc n) h = let c : Entry → ℕ = λ e. cond (eqb e.number i) 1 0
     let d : c (unbegun n) ≡ 0 = (let f : Bool → ℕ = λ x. cond x 1 0 in ap f (ne_eqb n i ne)) in
     omega arith) (cases_eq n i)
 
--- the start, where all is live
-unfoldable started : State
-started = record {
+-- the machine's start, which says the same of nodes that are not live
+unfoldable started : Frame → State
+started f = record {
   claimed = λ j. false;
-  opened = λ t d. false;
-  arrived = λ t d. false;
+  opened = λ t d. not (live_at f t d);
+  arrived = λ t d. not (live_at f t d);
   collected = λ t d. false;
-  returned = λ t. false;
-  place = λ t d. Nothing;
+  returned = λ t. not (f.live_node t);
+  place = λ t d. if live_at f t d then Nothing else Holds (packet_at f t d);
   worker = λ k. fresh;
 }
 
-module _ (g : Given) (whole : IsWhole (setting_of g)) where
+module _ (g : Given) (ok : IsGiven g) where
   abbrev f : Frame
   f = frame g
 
@@ -113,7 +172,7 @@ module _ (g : Given) (whole : IsWhole (setting_of g)) where
       (k : ℕ) × (k < g.seats) × (e ≡ unbegun k)
   entries id v at e is = in_below g.seats e (subst (λ (x : View). In e x.entries) (sym (only id v at)) is)
 
-  rostered : Rostered g (first_view g ∷ []) started.worker
+  rostered : Rostered g (first_view g ∷ []) (started f).worker
   unfolding started after_all
   rostered = record {
     same = λ id v at e is. ap (λ (x : View). x.given) (sym (only id v at));
@@ -126,52 +185,78 @@ module _ (g : Given) (whole : IsWhole (setting_of g)) where
     worker = λ id v at e is. let t = entries id v at e is in ap worker_of (sym t.2);
   }
 
-  shown : (words : List ℕ) → words ≡ replicate (f.batches + f.nodes) 0 →
-      Shows f (numbers g) words (map some (replicate (2 * f.nodes) blank)) started
-  unfolding started numbers
-  shown words is = record {
-    word_count = ap (λ (x : List ℕ). length x) is ∙ length_rep (f.batches + f.nodes) 0;
-    slot_count = length_map some (replicate (2 * f.nodes) blank) ∙ length_rep (2 * f.nodes) blank;
-    claims = λ j l. sym (off j 0);
-    opened = λ t d l. sym (off (f.batches + t) (0 + side_no d));
-    arrived = λ t d l. sym (off (f.batches + t) (2 + side_no d));
-    collected = λ t d l. sym (off (f.batches + t) (4 + side_no d));
-    returned = λ t l. sym (off (f.batches + t) 6);
+  shown : (words : List ℕ) (slots : List SlotPacket) → Starts f (numbers g) words slots →
+      Shows f (numbers g) words (map some slots) (started f)
+  unfolding started
+  shown words slots s = record {
+    word_count = s.word_count;
+    slot_count = length_map some slots ∙ s.slot_count;
+    claims = λ j l. sym (ap (λ (x : ℕ). bit_on x 0) (s.claims j l) ∙ bit_zero 0);
+    opened = λ t d l. ap not (live_of f t d) ∙ open_bit (live_at f t Left) (live_at f t Right) d
+        ∙ sym (ap (λ (x : ℕ). bit_on x (0 + side_no d)) (s.word t l));
+    arrived = λ t d l. ap not (live_of f t d) ∙ arrived_bit (live_at f t Left) (live_at f t Right) d
+        ∙ sym (ap (λ (x : ℕ). bit_on x (2 + side_no d)) (s.word t l));
+    collected = λ t d l. collected_bit (live_at f t Left) (live_at f t Right) d
+        ∙ sym (ap (λ (x : ℕ). bit_on x (4 + side_no d)) (s.word t l));
+    returned = λ t l. ap not l.1 ∙ returned_bit (live_at f t Left) (live_at f t Right)
+        ∙ sym (ap (λ (x : ℕ). bit_on x 6) (s.word t l));
     places = λ t d l. (
-      some blank,
-      home_none (2 * f.nodes) (slot t d) (let s = side_le d in let z = l.0 in omega arith),
-      empty,
+      some (start_slot d (live_at f t d) (packet_at f t d)),
+      home_some slots (slot ((numbers g).number t) d) (start_slot d (live_at f t d) (packet_at f t d)) (s.kept t d l),
+      placed d (live_at f t d) (packet_at f t d),
     );
   }
-    where
-      off : (k j : ℕ) → bit_on (slice_index words k) j ≡ false
-      off k j = ap (λ (x : ℕ). bit_on x j) (ap (λ (x : List ℕ). get_or x k 0) is ∙ word_zero (f.batches + f.nodes) k)
-          ∙ bit_zero j
 
-      side_le : (d : Side) → side_no d ≤ 1
-      side_le Left = omega arith
-      side_le Right = omega arith
-
-  starts : IsStart f started
+  starts : IsStart f (started f)
   unfolding started
   starts = record {
     claimed = λ j l. refl;
-    opened = λ t d l. sym (is_off (live_at f t d) (all_live g whole t d l));
-    arrived = λ t d l. sym (is_off (live_at f t d) (all_live g whole t d l));
+    opened = λ t d l. refl;
+    arrived = λ t d l. refl;
     collected = λ t d l. refl;
-    returned = λ t l. sym (is_off (f.live_node t) (all_live_nodes g whole t l));
-    place = λ t d l. sym (ap (λ (b : Bool). if b then Nothing else Holds (packet_at f t d)) (all_live g whole t d l));
+    returned = λ t l. refl;
+    place = λ t d l. refl;
     workers = λ k l. refl;
   }
 
   -- the rule holds of the table as it is made
-  pub opens : (words : List ℕ) (slots : List SlotPacket) → words ≡ replicate (f.batches + f.nodes) 0 →
-      slots ≡ replicate (2 * f.nodes) blank → Rule g (opening words slots (first_view g))
-  opens words slots is c = subst (λ (x : List SlotPacket). Rule g (opening words x (first_view g))) (sym c) (record {
-    machine = started;
-    shows = shown words is;
-    lawful = begins g (whole_given g whole) started starts;
+  pub opens : (words : List ℕ) (slots : List SlotPacket) → Starts f (numbers g) words slots →
+      Rule g (opening words slots (first_view g))
+  opens words slots s = record {
+    machine = started f;
+    shows = shown words slots s;
+    lawful = begins g ok (started f) starts;
     rostered = rostered;
-    given = whole_given g whole;
-    numbered = whole_numbered g whole;
-  })
+    given = ok;
+    numbered = numbered g ok;
+  }
+
+-- words that are 0 and blank slots are the start, where all leaves are live
+module _ (g : Given) (whole : IsWhole (setting_of g)) (none : g.spots ≡ None) where
+  ok : IsGiven g
+  ok = whole_given g whole none
+
+  pub whole_starts : (words : List ℕ) (slots : List SlotPacket) →
+      words ≡ replicate ((frame g).batches + (frame g).nodes) 0 → slots ≡ replicate (2 * (frame g).nodes) blank →
+      Starts (frame g) (numbers g) words slots
+  whole_starts words slots ws ss = record {
+    word_count = ap (λ (x : List ℕ). length x) ws ∙ length_rep ((frame g).batches + (frame g).nodes) 0
+        ∙ ap (λ (n : ℕ). (frame g).batches + n) (sym (count_none g ok none));
+    slot_count = ap (λ (x : List SlotPacket). length x) ss ∙ length_rep (2 * (frame g).nodes) blank
+        ∙ ap (λ (n : ℕ). 2 * n) (sym (count_none g ok none));
+    claims = λ j l. zero_at j;
+    word = λ t l. zero_at ((frame g).batches + (numbers g).number t)
+        ∙ sym (ap (λ (b : Bool). start_word b (live_at (frame g) t Right)) (all_live g whole t Left l.0)
+        ∙ ap (start_word true) (all_live g whole t Right l.0));
+    kept = λ t d l. ap (λ (x : List SlotPacket). get_elem? x (slot ((numbers g).number t) d)) ss
+        ∙ slot_blank (2 * (frame g).nodes) (slot ((numbers g).number t) d)
+        (let s = side_le d in let z = l.0 in let n = number_none g ok t none in omega (arith, s, z, n))
+        ∙ sym (ap (λ (b : Bool). some (start_slot d b (packet_at (frame g) t d))) (all_live g whole t d l.0));
+  }
+    where
+      zero_at : (k : ℕ) → slice_index words k ≡ 0
+      zero_at k = ap (λ (x : List ℕ). get_or x k 0) ws ∙ word_zero ((frame g).batches + (frame g).nodes) k
+
+      side_le : (d : Side) → side_no d ≤ 1
+      side_le Left = omega arith
+      side_le Right = omega arith

@@ -1,5 +1,6 @@
 -- Packets are taken out of a closed table one by one.
-use Rattle.std.proofs.Common.{◌≡◌, ◌≢◌, ℕ, zero, suc, ◌+◌, ◌*◌, ◌<◌, ◌≤◌, ⊎_elim, inl, inr, Bool, false, List, [], ◌∷◌, ◌++◌, set, get_or, sym, refl, ap, ◌∙◌, subst, arith}
+use Rattle.std.proofs.Common.{◌≡◌, ◌≢◌, ℕ, zero, suc, ◌+◌, ◌*◌, ◌<◌, ◌≤◌, ⊎_elim, inl, inr, Bool, false, List, [], ◌∷◌, ◌++◌, length, set, get_or, sym, refl, ap, ◌∙◌, subst, arith}
+use Rattle.std.specs.Prelude.{slice_index}
 use Rattle.std.proofs.lemmas.List.{get_or-set_other}
 use Rattle.std.proofs.lemmas.Bool.{cases_eq, cases_lt}
 use Rattle.std.proofs.Math.ListN.{length-append, get_or-append}
@@ -16,9 +17,13 @@ use Rattle.arrival_core.specs.Settings.{Setting, frame_of, child_of}
 use Rattle.box_handoff.specs.declared.slots.SlotPacket.{SlotPacket}
 use Rattle.box_handoff.specs.declared.views.Given.{Given}
 use Rattle.box_handoff.specs.Slots.{packed, unpacked}
-use Rattle.box_handoff.specs.Entries.{IsGiven, setting_of, frame}
-use Rattle.box_handoff.specs.Packets.{packet_of, child_packet, ArePackets}
+use Rattle.box_handoff.specs.LiveNodes.{splits_of}
+use Rattle.box_handoff.specs.Entries.{IsGiven, setting_of, frame, numbers}
+use Rattle.box_handoff.specs.Rule.{slot}
+use Rattle.box_handoff.specs.Packets.{packet_of, child_packet, ArePacketsOf}
 use Rattle.box_handoff.specs.Gathering.{AreKept}
+use Rattle.box_handoff.proofs.SplitLists.{listed_shown}
+use Rattle.box_handoff.proofs.NumberLaws.{listed}
 use Rattle.box_handoff.proofs.PackLaws.{unpacked_packed}
 
 -- the packet of what has a range speaks of keys and boxes alone
@@ -33,27 +38,34 @@ unfolding frame packet_at frame_of
 child_is g t d = below_is (setting_of g) (child_of g.keys t d)
 
 -- what is taken out of a slot and unpacked is the child's packet
-pub taken_is : (g : Given) → IsGiven g → (items now : List SlotPacket) (t i : ℕ) (d : Side) (k : SlotPacket)
+pub taken_is : (g : Given) → IsGiven g → (items now : List SlotPacket) (i at split : ℕ) (d : Side) (k : SlotPacket)
     (p : Packet) →
-    AreKept g items → now ≡ items → t < (frame g).nodes → i ≡ Rattle.box_handoff.specs.Rule.slot t d →
-    get_elem? now i ≡ some k → p ≡ unpacked t d k → p ≡ child_packet g.keys g.boxes t d
-taken_is g ok items now t i d k p kept same lt is got p_is =
+    AreKept g items → now ≡ items → i < length (splits_of (frame g)) → at ≡ slot i d →
+    split ≡ slice_index (splits_of (frame g)) i → get_elem? now at ≡ some k → p ≡ unpacked split d k →
+    p ≡ child_packet g.keys g.boxes (slice_index (splits_of (frame g)) i) d
+taken_is g ok items now i at split d k p kept same lt at_is split_is got p_is =
+    let t : ℕ = slice_index (splits_of (frame g)) i in
+    let seen = listed_shown (frame g) i lt in
+    let place : at ≡ slot ((numbers g).number t) d = at_is ∙ ap (λ (n : ℕ). slot n d) (sym (listed g ok i lt)) in
     let k_is : k ≡ packed d (packet_at (frame g) t d) = some-injective k (packed d (packet_at (frame g) t d))
-    (sym got ∙ ap (λ (l : List SlotPacket). get_elem? l i) same ∙ ap (λ (n : ℕ). get_elem? items n) is ∙ kept t d lt) in
-    p_is ∙ ap (unpacked t d) k_is ∙ unpacked_packed g ok t d lt ∙ child_is g t d
+    (sym got ∙ ap (λ (l : List SlotPacket). get_elem? l at) same ∙ ap (λ (n : ℕ). get_elem? items n) place
+    ∙ kept t d seen) in
+    p_is ∙ ap (λ (n : ℕ). unpacked n d k) split_is ∙ ap (unpacked t d) k_is ∙ unpacked_packed g ok t d seen.0
+    ∙ child_is g t d
 
 -- one packet more
-pub one_more : (keys : List Key) (boxes : List Box3) (d : Side) (t : ℕ) (packets more : List Packet) (p : Packet) →
-    ArePackets keys boxes d t packets → p ≡ child_packet keys boxes t d → more ≡ packets ++ p ∷ [] →
-    ArePackets keys boxes d (t + 1) more
-one_more keys boxes d t packets more p h is e = subst (λ (l : List Packet). ArePackets keys boxes d (t + 1) l) (sym e)
-    (record {
+pub one_more : (keys : List Key) (boxes : List Box3) (splits : List ℕ) (d : Side) (t : ℕ) (packets more : List Packet)
+    (p : Packet) →
+    ArePacketsOf keys boxes splits d t packets → p ≡ child_packet keys boxes (slice_index splits t) d →
+    more ≡ packets ++ p ∷ [] → ArePacketsOf keys boxes splits d (t + 1) more
+one_more keys boxes splits d t packets more p h is e =
+    subst (λ (l : List Packet). ArePacketsOf keys boxes splits d (t + 1) l) (sym e) (record {
       count_is = length-append packets (p ∷ []) ∙ ap (λ (n : ℕ). n + 1) h.count_is;
       each = λ s q lt. elim (cases_lt s t) [
         | inl less ↦ get_or-append packets (p ∷ []) q s (omega (arith, less, h.count_is)) ∙ h.each s q less
         | inr at ↦
             let same : t ≡ s = omega (arith, lt, at) in
-            subst (λ (n : ℕ). get_or (packets ++ p ∷ []) n q ≡ child_packet keys boxes n d) same
+            subst (λ (n : ℕ). get_or (packets ++ p ∷ []) n q ≡ child_packet keys boxes (slice_index splits n) d) same
             (ap (λ (n : ℕ). get_or (packets ++ p ∷ []) n q) (sym h.count_is) ∙ get_or-append_seam packets p [] q ∙ is)
       ];
     })

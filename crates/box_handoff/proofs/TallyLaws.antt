@@ -1,5 +1,5 @@
 -- The tallies of seats, and those of all workers at the end.
-use Rattle.std.proofs.Common.{length, ◌≡◌, ℕ, zero, suc, ◌+◌, ◌<◌, List, [], ◌∷◌, ◌++◌, sym, refl, ap, ◌∙◌, subst, arith}
+use Rattle.std.proofs.Common.{◌≡◌, ℕ, zero, suc, ◌+◌, ◌<◌, List, [], ◌∷◌, ◌++◌, sym, refl, ap, ◌∙◌, subst, arith}
 use Rattle.atomic_table.specs.Seated.{TableId}
 use Rattle.atomic_table.specs.Table.{Final, Seen}
 use Rattle.arrival_core.specs.declared.packets.Tally.{Tally}
@@ -7,7 +7,7 @@ use Rattle.arrival_core.specs.declared.packets.Phase.TheVariants.{Ended}
 use Rattle.arrival_core.specs.Sums.{sum_below}
 use Rattle.arrival_core.specs.States.{Worker}
 use Rattle.arrival_core.specs.Counts.{over}
-use Rattle.arrival_core.specs.Tasks.{IsWhole}
+use Rattle.arrival_core.specs.Settings.{frame_of}
 use Rattle.box_handoff.specs.declared.slots.SlotPacket.{SlotPacket}
 use Rattle.box_handoff.specs.declared.views.Given.{Given}
 use Rattle.box_handoff.specs.declared.views.Entry.{Entry}
@@ -16,11 +16,10 @@ use Rattle.box_handoff.specs.declared.seats.HandSeat.{HandSeat}
 use Rattle.box_handoff.specs.Entries.{setting_of, frame, total, times, In}
 use Rattle.box_handoff.specs.Cuts.{both_views}
 use Rattle.box_handoff.specs.Rule.{Rule}
-use Rattle.box_handoff.specs.Counts.{IsCounted}
+use Rattle.box_handoff.specs.Counts.{IsLiveCounted}
 use Rattle.box_handoff.specs.Seats.{IsSeat, entry_of, seat_fits, seat_steps}
 use Rattle.box_handoff.specs.Gathering.{Covers, fits_of, steps_of}
 use Rattle.box_handoff.proofs.FrameOf.{completes}
-use Rattle.box_handoff.proofs.WholeFrame.{counted_fits, counted_steps}
 use Rattle.box_handoff.proofs.Roster.{total_append, total_one, times_in}
 use Rattle.box_handoff.proofs.CountLaws.{counted_once}
 use Rattle.box_handoff.proofs.Standing.{workers_are}
@@ -91,11 +90,11 @@ module _ (g : Given) (id : ℕ) (v : View) (words : List ℕ) (slots : List Slot
       (λ e is. rule.rostered.known id v fin.1.1 e is) once
       ∙ ap (λ (n : ℕ). sum_below n (λ k. count (rule.machine.worker k).tally)) (sym (workers_are g)))
 
-  -- so the sums are the counts of a whole run
-  pub counts_are : IsWhole (setting_of g) → (t : Tally) → t.fits ≡ fits_of v → t.steps ≡ steps_of v →
-      IsCounted (length g.keys) g.seats t
-  counts_are whole t f s =
+  -- so the sums are the counts of a run
+  pub counts_are : (t : Tally) → t.fits ≡ fits_of v → t.steps ≡ steps_of v → IsLiveCounted (setting_of g) t
+  unfolding frame frame_of
+  counts_are t f s =
       let c = completes g rule.given rule.machine rule.lawful ended in record {
-        fits = f ∙ (whole_count (λ x. x.fits) ∙ counted_fits g whole rule.machine c);
-        steps = s ∙ (whole_count (λ x. x.steps) ∙ counted_steps g whole rule.machine c);
+        fits = f ∙ (whole_count (λ x. x.fits) ∙ c.fits);
+        steps = s ∙ (whole_count (λ x. x.steps) ∙ c.steps);
       }

@@ -1,21 +1,22 @@
 -- What the core's crate says of a handoff over all keys.
-use Rattle.std.proofs.Common.{◌≡◌, ap, ◌∙◌, ℕ, ◌+◌, ◌-◌, ◌/◌, ◌<◌, length, refl, arith, true, ◌*◌}
+use Rattle.std.proofs.Common.{◌≡◌, sym, subst, ap, ◌∙◌, ℕ, ◌+◌, ◌-◌, ◌/◌, ◌<◌, length, List, arith, true, refl, ◌*◌, None}
+use Rattle.arrival_core.specs.declared.packets.Packet.{Packet}
 use Rattle.arrival_core.specs.declared.packets.Side.{Side}
+use Rattle.arrival_core.specs.declared.packets.Side.TheVariants.{Left, Right}
+use Rattle.arrival_core.specs.declared.packets.Tally.{Tally}
 use Rattle.arrival_core.specs.Frames.{live_at}
-use Rattle.arrival_core.specs.States.{State}
-use Rattle.arrival_core.specs.Counts.{over}
-use Rattle.arrival_core.specs.Complete.{IsComplete, live_children, live_nodes}
+use Rattle.arrival_core.specs.Settings.{Setting, frame_of, batch_count}
 use Rattle.arrival_core.specs.Tasks.{IsWhole}
 use Rattle.arrival_core.proofs.WholeLaws as core
 use Rattle.box_handoff.specs.declared.views.Given.{Given}
-use Rattle.box_handoff.specs.Entries.{IsGiven, IsNumbered, numbers, setting_of, frame}
-use Rattle.box_handoff.proofs.FrameOf.{nodes_is, batches_is, workers_is}
+use Rattle.box_handoff.specs.declared.fitted.Fitted.{Fitted}
+use Rattle.box_handoff.specs.LiveNodes.{AreSpots, splits_of}
+use Rattle.box_handoff.specs.Entries.{IsGiven, setting_of, frame}
+use Rattle.box_handoff.specs.Packets.{child_packet, ArePackets, ArePacketsOf, AreFitted, AreLiveFitted}
+use Rattle.box_handoff.specs.Counts.{IsCounted, IsLiveCounted}
+use Rattle.box_handoff.proofs.SplitLists.{splits_all}
 
 module _ (g : Given) (ok : IsWhole (setting_of g)) where
-  -- keys whose leaves are all live may be given
-  pub whole_given : IsGiven g
-  whole_given = record { task = core.whole_task (setting_of g) ok; few = ok.few }
-
   -- every child is live
   pub all_live : (t : ℕ) (d : Side) → t < (frame g).nodes → live_at (frame g) t d ≡ true
   unfolding frame
@@ -26,35 +27,47 @@ module _ (g : Given) (ok : IsWhole (setting_of g)) where
   unfolding frame
   all_live_nodes t lt = core.all_live_nodes (setting_of g) ok t lt
 
-  -- every node is live and has a number
-  pub whole_numbered : IsNumbered (frame g) (numbers g)
-  unfolding numbers
-  whole_numbered = record {
-    within = λ t l. l.0;
-    apart = λ s t l m e. e;
-    each = λ i l. (i, (l, all_live_nodes i l), refl);
+  -- keys whose leaves are all live may be given, with no list of splits
+  pub whole_given : g.spots ≡ None → IsGiven g
+  whole_given none = record {
+    task = core.whole_task (setting_of g) ok;
+    few = ok.few;
+    spots = subst (AreSpots (frame g)) (sym none) all_live_nodes;
   }
 
-  -- the counts at the end
-  live_nodes_are : live_nodes (frame g) ≡ (frame g).nodes
-  unfolding frame
-  live_nodes_are = core.live_nodes_is (setting_of g) ok
+-- the packets and the counts where all leaves are live
+module _ (x : Setting) (ok : IsWhole x) where
+  nodes_are : (frame_of x).nodes ≡ length x.keys - 1
+  unfolding frame_of
+  nodes_are = refl
 
-  live_children_are : live_children (frame g) ≡ 2 * (frame g).nodes
-  unfolding frame
-  live_children_are = core.live_children_is (setting_of g) ok
+  packets_all : (d : Side) (packets : List Packet) →
+      ArePacketsOf x.keys x.boxes (splits_of (frame_of x)) d (length (splits_of (frame_of x))) packets →
+      ArePackets x.keys x.boxes d (length x.keys - 1) packets
+  packets_all d packets h =
+      let s = splits_all (frame_of x) 0 (frame_of x).nodes (λ t l u. core.all_live_nodes x ok t (omega (arith, u))) in
+      record {
+        count_is = h.count_is ∙ s.0 ∙ nodes_are;
+        each = λ i p lt. h.each i p (omega (arith, lt, s.0, nodes_are))
+            ∙ ap (λ (n : ℕ). child_packet x.keys x.boxes n d)
+            (s.1 i (omega (arith, lt, nodes_are)) ∙ (let z : 0 + i ≡ i = omega arith in z));
+      }
 
-  -- so each inner node is fitted once
-  pub counted_fits : (m : State) → IsComplete (frame g) m → over (frame g) m (λ w. w.tally.fits) ≡ length g.keys - 1
-  counted_fits m c = omega (arith, c.fits, live_nodes_are, nodes_is g whole_given)
+  -- those of all inner nodes, each at its split
+  pub fitted_all : (r : Fitted) → AreLiveFitted x r → AreFitted x.keys x.boxes r
+  fitted_all r h = record {
+    left = packets_all Left r.left.items h.left;
+    right = packets_all Right r.right.items h.right;
+  }
 
-  -- and the steps are counted
-  pub counted_steps : (m : State) → IsComplete (frame g) m →
-      over (frame g) m (λ w. w.tally.steps) ≡ g.seats * ((length g.keys + 63) / 64) + 2 *
-      (2 * length g.keys - 2) + 2 * (length g.keys - 1)
-  counted_steps m c =
-      let b : (frame g).batches ≡ (length g.keys + 63) / 64 = batches_is g whole_given
-      ∙ ap (λ (n : ℕ). (n + 63) / 64) ok.live_count in
-      let product : (frame g).workers * (frame g).batches ≡ g.seats * ((length g.keys + 63) / 64)
-      = ap (λ (n : ℕ). n * (frame g).batches) (workers_is g whole_given) ∙ ap (λ (n : ℕ). g.seats * n) b in
-      omega (arith, c.steps, product, live_nodes_are, live_children_are, nodes_is g whole_given, ok.two)
+  -- and so many
+  pub counted_all : (t : Tally) → IsLiveCounted x t → IsCounted (length x.keys) x.workers t
+  counted_all t h =
+      let n = core.live_nodes_is x ok in
+      let k = core.live_children_is x ok in
+      let product : x.workers * batch_count x.live ≡ x.workers * ((length x.keys + 63) / 64)
+      = ap (λ (l : ℕ). x.workers * ((l + 63) / 64)) ok.live_count in
+      record {
+        fits = omega (arith, h.fits, n, nodes_are);
+        steps = omega (arith, h.steps, product, n, k, nodes_are, ok.two);
+      }

@@ -15,7 +15,8 @@ use Rattle.arrival_core.specs.Frames.{Frame}
 use Rattle.arrival_core.specs.Events.{put, put_side, same}
 use Rattle.arrival_core.proofs.PutLaws.{put-here, put-other, put_side-same, put_side-apart, same-refl, same-node, same-side}
 use Rattle.box_handoff.specs.declared.slots.SlotPacket.{SlotPacket}
-use Rattle.box_handoff.specs.Entries.{Numbers, Shown, IsNumbered}
+use Rattle.box_handoff.specs.LiveNodes.{Shown}
+use Rattle.box_handoff.specs.Entries.{Numbers, IsNumbered}
 use Rattle.box_handoff.specs.Rule.{bit_on, side_no, slot, node_word, ShowsSide, ShowsNode, ShowsBatch, ShowsPlace, ShowsPlaces}
 
 -- a bit that is set is on

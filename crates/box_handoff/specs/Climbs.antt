@@ -16,7 +16,8 @@ use Rattle.box_handoff.specs.declared.views.Event.TheVariants.{Take, Open, Arriv
 use Rattle.box_handoff.specs.declared.views.Given.{Given}
 use Rattle.box_handoff.specs.declared.views.Entry.{Entry}
 use Rattle.box_handoff.specs.declared.views.View.{View}
-use Rattle.box_handoff.specs.Entries.{Shown, numbers, frame, one, grown, after, after_all, worker_of}
+use Rattle.box_handoff.specs.LiveNodes.{Shown}
+use Rattle.box_handoff.specs.Entries.{numbers, frame, one, grown, after, after_all, worker_of}
 use Rattle.box_handoff.specs.Plays.{Mine, mine, IsSmall}
 
 -- the event is the one that a phase names

@@ -1,7 +1,10 @@
 -- A worker by its list of events, and the entries of views.
-use Rattle.std.specs.Prelude.{ℕ, suc, zero, true, ◌≡◌, ◌<◌, ◌≤◌, ◌+◌, ◌==◌, cond, if◌then◌else◌, List, [], ◌∷◌, ◌++◌}
+use Rattle.std.specs.Prelude.{ℕ, suc, zero, ◌≡◌, ◌<◌, ◌≤◌, ◌+◌, ◌==◌, cond, if◌then◌else◌, List, [], ◌∷◌, ◌++◌, length, Option, Some, None}
+use Rattle.std.specs.declared.vec.Vec.{Vec}
+use Rattle.std.specs.declared.alloc.Global.{Global}
 use mathlib.Core.Option.{some}
 use lib.ListN.{get_elem?}
+use Rattle.arrival_core.specs.declared.packets.TheConstants.{MOST_WORKERS}
 use Rattle.arrival_core.specs.declared.packets.Phase.{Phase}
 use Rattle.arrival_core.specs.declared.packets.Phase.TheVariants.{Looking, Carry, Opened, Second, Collecting}
 use Rattle.arrival_core.specs.Frames.{Frame, other, packet_at}
@@ -16,6 +19,7 @@ use Rattle.box_handoff.specs.declared.views.Given.{Given}
 use Rattle.box_handoff.specs.declared.views.Entry.{Entry}
 use Rattle.box_handoff.specs.declared.views.View.{View}
 use Rattle.box_handoff.specs.declared.views.About.{About}
+use Rattle.box_handoff.specs.LiveNodes.{Shown, AreSpots}
 
 abbrev pub setting_of : Given → Setting
 setting_of g = record { keys = g.keys; boxes = g.boxes; live = g.live; workers = g.seats }
@@ -23,26 +27,42 @@ setting_of g = record { keys = g.keys; boxes = g.boxes; live = g.live; workers =
 unfoldable pub frame : Given → Frame
 frame g = frame_of (setting_of g)
 
-abbrev pub given_of : About → Given
-given_of a = record { keys = a.keys.now; boxes = a.boxes.now; live = a.live.items; seats = a.seats }
+abbrev pub spots_of : Option (Vec ℕ Global) → Option (List ℕ)
+spots_of None = None
+spots_of (Some v) = Some v.items
 
--- what a handoff may be given: what the machine may be set to, and at most 64 seats
+abbrev pub given_of : About → Given
+given_of a = record {
+  keys = a.keys.now;
+  boxes = a.boxes.now;
+  live = a.live.items;
+  seats = a.seats;
+  spots = spots_of a.spots;
+}
+
+-- what a handoff may be given: what the machine may be set to, seats for its workers, and the splits of its live nodes
 pub record IsGiven (g : Given) : Type 0 where
   pub task : IsTask (setting_of g)
-  pub few : g.seats ≤ 64
-
--- the node is one of the tree, and live
-abbrev pub Shown : Frame → ℕ → Type 0
-Shown f t = (t < f.nodes) × (f.live_node t ≡ true)
+  pub few : g.seats ≤ MOST_WORKERS
+  pub spots : AreSpots (frame g) g.spots
 
 -- how many nodes a table has words and places for, and which number each has there
 pub record Numbers : Type 0 where
   pub count : ℕ
   pub number : ℕ → ℕ
 
--- every node has a word and two places, and its number is its split
+-- where a number stands in a list
+unfoldable pub place_in : List ℕ → ℕ → ℕ
+place_in [] t = 0
+place_in (x ∷ xs) t = if x == t then 0 else suc (place_in xs t)
+
+-- each listed node has a word and two places, in the order of the list; with no list each of all nodes, by its split
+unfoldable pub numbers_in : ℕ → Option (List ℕ) → Numbers
+numbers_in nodes None = record { count = nodes; number = λ t. t }
+numbers_in nodes (Some spots) = record { count = length spots; number = place_in spots }
+
 unfoldable pub numbers : Given → Numbers
-numbers g = record { count = (frame g).nodes; number = λ t. t }
+numbers g = numbers_in (frame g).nodes g.spots
 
 -- each live node has a number of its own, and each number is a live node's
 pub record IsNumbered (f : Frame) (num : Numbers) : Type 0 where

@@ -17,8 +17,9 @@ use Rattle.box_handoff.specs.declared.views.Entry.{Entry}
 use Rattle.box_handoff.specs.declared.views.View.{View}
 use Rattle.box_handoff.specs.declared.seats.HandSeat.{HandSeat}
 use Rattle.box_handoff.specs.Slots.{packed}
-use Rattle.box_handoff.specs.Entries.{frame, unbegun_below, total, In}
-use Rattle.box_handoff.specs.Packets.{ArePackets}
+use Rattle.box_handoff.specs.LiveNodes.{Shown, splits_of}
+use Rattle.box_handoff.specs.Entries.{frame, numbers, unbegun_below, total, In}
+use Rattle.box_handoff.specs.Packets.{ArePacketsOf}
 use Rattle.box_handoff.specs.Rule.{slot}
 use Rattle.box_handoff.specs.Seats.{IsSeat, seat_fits, seat_steps}
 
@@ -85,15 +86,15 @@ pub record IsGathering (g : Given) (z : TableId) (all left : List HandSeat) (bef
 
 -- each slot of a closed table keeps its child's packet
 abbrev pub AreKept : Given → List SlotPacket → Type 0
-AreKept g slots = (t : ℕ) (d : Side) → t < (frame g).nodes →
-    get_elem? slots (slot t d) ≡ some (packed d (packet_at (frame g) t d))
+AreKept g slots = (t : ℕ) (d : Side) → Shown (frame g) t →
+    get_elem? slots (slot ((numbers g).number t) d) ≡ some (packed d (packet_at (frame g) t d))
 
 -- while packets are taken out of a closed table
 pub record IsReading (g : Given) (items now : List SlotPacket) (filled : List Bool) (count : ℕ)
     (left right : List Packet) (t : ℕ) : Type 0 where
   pub same : now ≡ items
-  pub places : count ≡ 2 * (frame g).nodes
+  pub places : count ≡ 2 * (numbers g).count
   pub full : (k : ℕ) → 2 * t ≤ k → k < count → slice_index_or filled k false ≡ true
   pub empty : (k : ℕ) → k < 2 * t → slice_index_or filled k false ≡ false
-  pub lefts : ArePackets g.keys g.boxes Left t left
-  pub rights : ArePackets g.keys g.boxes Right t right
+  pub lefts : ArePacketsOf g.keys g.boxes (splits_of (frame g)) Left t left
+  pub rights : ArePacketsOf g.keys g.boxes (splits_of (frame g)) Right t right

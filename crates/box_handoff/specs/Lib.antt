@@ -1,10 +1,13 @@
 pub mod Packets
 pub mod Counts
 pub mod Seats
+pub mod LiveNodes
 pub mod Entries
 pub mod Climbs
 pub mod Slots
 pub mod Rule
+pub mod Starting
+pub mod Laying
 pub mod Plays
 pub mod Cuts
 pub mod Made

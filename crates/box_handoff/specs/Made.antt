@@ -2,19 +2,19 @@
 use Rattle.std.specs.Prelude.{ℕ, ◌≡◌, ◌<◌, ◌+◌, ◌*◌, ◌^◌, List, length, slice_index_or}
 use Rattle.atomic_table.specs.Seated.{TableId}
 use Rattle.arrival_core.specs.Frames.{Frame}
-use Rattle.arrival_core.specs.Tasks.{IsWhole}
 use Rattle.std.specs.declared.snapshot.Snapshot.{Snapshot}
 use Rattle.box_handoff.specs.declared.views.Given.{Given}
 use Rattle.box_handoff.specs.declared.views.About.{About}
-use Rattle.box_handoff.specs.Entries.{Numbers, setting_of, frame, given_of, numbers}
+use Rattle.box_handoff.specs.Entries.{Numbers, IsGiven, frame, given_of, numbers}
 
--- the table's key is what it was made of, and it has a word for each batch and each node, and two slots for each node
+-- the table's key is what it was made of, and it has a word for each batch and each live node, and two slots for
+-- each live node
 pub record IsMade (key about : About) (z : TableId) : Type 0 where
   pub key_is : key ≡ about
   pub words : z.words ≡ (frame (given_of about)).batches + (numbers (given_of about)).count
   pub slots : z.slots ≡ 2 * (numbers (given_of about)).count
   pub room : z.words < 2 ^ 60
-  pub whole : IsWhole (setting_of (given_of about))
+  pub given : IsGiven (given_of about)
 
 -- the positions below a count, in order
 pub record ArePositions (count : ℕ) (live : List ℕ) : Type 0 where

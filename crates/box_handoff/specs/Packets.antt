@@ -1,5 +1,5 @@
 -- What a contract sees of fitted boxes: the packet of each child of each inner node.
-use Rattle.std.specs.Prelude.{ℕ, ◌≡◌, ◌<◌, ◌-◌, List, length, slice_index_or}
+use Rattle.std.specs.Prelude.{ℕ, ◌≡◌, ◌<◌, ◌-◌, List, length, slice_index, slice_index_or}
 use Rattle.fixed_box.specs.declared.shapes.Box3.{Box3}
 use Rattle.morton_key.specs.declared.keys.Key.{Key}
 use Rattle.morton_key.specs.Keys.{tri_at}
@@ -9,7 +9,8 @@ use Rattle.arrival_core.specs.declared.packets.Side.{Side}
 use Rattle.arrival_core.specs.declared.packets.Side.TheVariants.{Left, Right}
 use Rattle.arrival_core.specs.Frames.{Below}
 use Rattle.arrival_core.specs.Frames.Below.{leaf, inner}
-use Rattle.arrival_core.specs.Settings.{row_of, child_of}
+use Rattle.arrival_core.specs.Settings.{Setting, row_of, child_of, frame_of}
+use Rattle.box_handoff.specs.LiveNodes.{splits_of}
 use Rattle.box_handoff.specs.declared.fitted.Fitted.{Fitted}
 
 -- the packet of a leaf, with its triangle's box, and of the inner node with that split, with the least box of its range
@@ -32,6 +33,19 @@ pub record ArePackets (keys : List Key) (boxes : List Box3) (d : Side) (count : 
     (packets : List Packet) : Type 0 where
   pub count_is : length packets ≡ count
   pub each : (s : ℕ) (p : Packet) → s < count → slice_index_or packets s p ≡ child_packet keys boxes s d
+
+-- the packets of the children, on one side, of the first so many of the inner nodes with these splits
+pub record ArePacketsOf (keys : List Key) (boxes : List Box3) (splits : List ℕ) (d : Side) (count : ℕ)
+    (packets : List Packet) : Type 0 where
+  pub count_is : length packets ≡ count
+  pub each : (i : ℕ) (p : Packet) → i < count →
+      slice_index_or packets i p ≡ child_packet keys boxes (slice_index splits i) d
+
+-- at place i stand the packets of the two children of the live inner node with the split of place i among these
+pub record AreLiveFitted (x : Setting) (fitted : Fitted) : Type 0 where
+  pub left : ArePacketsOf x.keys x.boxes (splits_of (frame_of x)) Left (length (splits_of (frame_of x))) fitted.left.items
+  pub right : ArePacketsOf x.keys x.boxes (splits_of (frame_of x)) Right (length (splits_of (frame_of x)))
+      fitted.right.items
 
 -- at place s stand the packets of the two children of the inner node whose split is s
 pub record AreFitted (keys : List Key) (boxes : List Box3) (x : Fitted) : Type 0 where

@@ -21,7 +21,8 @@ use Rattle.box_handoff.specs.declared.views.Given.{Given}
 use Rattle.box_handoff.specs.declared.views.Entry.{Entry}
 use Rattle.box_handoff.specs.declared.views.View.{View}
 use Rattle.box_handoff.specs.Slots.{packed, blank}
-use Rattle.box_handoff.specs.Entries.{Numbers, Shown, IsGiven, IsNumbered, numbers, frame, after_all, worker_of, total, times, In}
+use Rattle.box_handoff.specs.LiveNodes.{Shown}
+use Rattle.box_handoff.specs.Entries.{Numbers, IsGiven, IsNumbered, numbers, frame, after_all, worker_of, total, times, In}
 
 -- the bit of the word says yes
 unfoldable pub bit_on : ℕ → ℕ → Bool

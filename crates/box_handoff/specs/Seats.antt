@@ -6,11 +6,13 @@ use Rattle.morton_key.specs.declared.keys.Key.{Key}
 use Rattle.arrival_core.specs.declared.packets.Phase.TheVariants.{Ended}
 use Rattle.arrival_core.specs.declared.packets.Tally.{Tally}
 use Rattle.arrival_core.specs.Start.{fresh}
+use Rattle.arrival_core.specs.Settings.{Setting}
+use Rattle.arrival_core.specs.Tasks.{IsWhole}
 use Rattle.box_handoff.specs.declared.views.Given.{Given}
 use Rattle.box_handoff.specs.declared.views.Entry.{Entry}
 use Rattle.box_handoff.specs.declared.seats.HandSeat.{HandSeat}
 use Rattle.box_handoff.specs.declared.handoffs.Handoff.{Handoff}
-use Rattle.box_handoff.specs.Entries.{given_of, one, worker_of, total}
+use Rattle.box_handoff.specs.Entries.{setting_of, given_of, one, worker_of, total}
 use Rattle.box_handoff.specs.Plays.{mine, IsSmall}
 use Rattle.box_handoff.specs.Made.{IsMade}
 
@@ -47,11 +49,16 @@ pub record IsSeatOf (h : Handoff) (s : HandSeat) : Type 0 where
   pub made : IsHandoff h
   pub seat : IsSeat (given_by h) (id_of h) s
 
--- a handoff over these keys and boxes with so many seats
+-- the keys, boxes, live positions and count of seats of a handoff, as the machine's setting
+abbrev pub setting_by : Handoff → Setting
+setting_by h = setting_of (given_by h)
+
+-- a handoff over these keys and boxes, of which all leaves are live, with so many seats
 pub record IsOver (keys : List Key) (boxes : List Box3) (seats : ℕ) (h : Handoff) : Type 0 where
   pub keys_are : (given_by h).keys ≡ keys
   pub boxes_are : (given_by h).boxes ≡ boxes
   pub seats_are : (given_by h).seats ≡ seats
+  pub whole : IsWhole (setting_by h)
 
 -- all seats of the handoff, in the order of their numbers from 0, none begun
 pub record AreFresh (h : Handoff) (seats : List HandSeat) : Type 0 where

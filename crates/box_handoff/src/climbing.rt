@@ -34,6 +34,7 @@ pub fn batches_of(about: &About<'_>) -> usize
 /// Carries a load up until the other side of a node has not arrived, or to the root. The answer is the tally then.
 pub fn carry_up<W: Ways>(
     table: &HandTable<'_>,
+    about: &About<'_>,
     seat: &mut TableSeat,
     base: usize,
     ways: &W,
@@ -41,6 +42,7 @@ pub fn carry_up<W: Ways>(
     tally: Tally,
 ) -> Tally
     requires table { seat.old.table_id ≡ table.now.table_id }
+    requires key { table.now.key.value ≡ about.now }
     requires words { let f = frame_in table.now.key in (base ≡ f.batches)
         × (table.now.table_id.words ≡ f.batches + (numbers_in table.now.key).count) }
     requires room { table.now.table_id.words < 2 ^ 60 }
@@ -58,7 +60,7 @@ pub fn carry_up<W: Ways>(
     let mut load = load;
     let mut tally = tally;
     loop {
-        let Some(packet) = pass_node(table, seat, base, &load) else {
+        let Some(packet) = pass_node(table, about, seat, base, &load) else {
             tally.steps += 2;
             return tally;
         };
@@ -78,7 +80,7 @@ pub fn carry_up<W: Ways>(
 }
 
 /// The box of the triangle at a position.
-fn box_at(keys: &[Key], boxes: &[Box3], position: usize) -> Box3
+pub fn box_at(keys: &[Key], boxes: &[Box3], position: usize) -> Box3
     requires lawful { IsLawful keys.now }
     requires count { length boxes.now ≡ length keys.now }
     requires within { position < length keys.now }
@@ -158,7 +160,7 @@ fn carry_batch<W: Ways>(
     let end = about.live.len().min(begin + BATCH);
     for i in begin..end {
         let load = leaf_load(about, ways, about.live[i]);
-        tally = carry_up(table, seat, base, ways, load, tally);
+        tally = carry_up(table, about, seat, base, ways, load, tally);
     }
     tally
 }

@@ -1,23 +1,28 @@
-//! The three calls of a handoff.
+//! The calls of a handoff.
 ghost use Rattle.std.specs.Prelude.{◌≡◌, ◌<◌, ◌≤◌, ℕ, length, IfOk, true, false};
 ghost use Rattle.morton_key.specs.Keys.{IsLawful};
 ghost use Rattle.box_handoff.specs.Entries.{frame};
 ghost use Rattle.box_handoff.specs.Climbs.{Grew};
-ghost use Rattle.box_handoff.specs.Packets.{AreFitted};
-ghost use Rattle.box_handoff.specs.Counts.{IsCounted};
-ghost use Rattle.box_handoff.specs.Seats.{given_by, entry_of, IsSeatOf, IsOver, AreFresh, AreAll, IsSumOf};
+ghost use Rattle.arrival_core.specs.declared.packets.TheConstants.{MOST_WORKERS};
+ghost use Rattle.arrival_core.specs.Settings.{setting};
+ghost use Rattle.arrival_core.specs.Tasks.{IsTask, IsWhole, FitsButFor};
+ghost use Rattle.box_handoff.specs.Packets.{AreFitted, AreLiveFitted};
+ghost use Rattle.box_handoff.specs.Counts.{IsCounted, IsLiveCounted};
+ghost use Rattle.box_handoff.specs.Seats.{given_by, setting_by, entry_of, IsSeatOf, IsOver, AreFresh, AreAll, IsSumOf};
 
 use crate::climbing::{batches_of, climb_with};
 use crate::fitted::Fitted;
 use crate::gathering::{gather, read_out};
 use crate::handoffs::Handoff;
-use crate::making::{make, seats_of, whole};
+use crate::making::{make_live, make_whole, seats_of, whole};
+use crate::numbering::count_of;
 use crate::seats::HandSeat;
 use crate::ways::Ways;
 use crate::{Packet, Tally};
 use fixed_box::Box3;
 use morton_key::Key;
 use outside::{Gate, Memory};
+use radix_tree::Tree;
 use std::alloc::Global;
 
 impl<'a> Handoff<'a> {
@@ -35,12 +40,36 @@ impl<'a> Handoff<'a> {
         requires two { 1 < length keys.now }
         requires count { length boxes.now ≡ length keys.now }
         requires some { 0 < seats }
-        requires few { seats ≤ 64 }
+        requires few { seats ≤ MOST_WORKERS }
         ensures over { IfOk result (λ r. IsOver keys.now boxes.now seats r.0) }
         ensures seats { IfOk result (λ r. AreFresh r.0 r.1.items) }
     {
         let about = whole(alloc, keys, boxes, seats)?;
-        let (handoff, first) = make(alloc, about)?;
+        let (handoff, first) = make_whole(alloc, about)?;
+        let seats = seats_of(&handoff, alloc, first)?;
+        Ok((handoff, seats))
+    }
+
+    /// A handoff over the live leaves alone, and its seats, numbered from 0, none of which has begun.
+    ///
+    /// `boxes[t - 1]` is the box of triangle `t`, and `live` are the positions whose boxes may have changed, rising, one
+    /// at least. The tree is fitted to some list of boxes that gives the triangle at every other position the same box.
+    /// It takes memory for a word for every 64 live leaves, for a word, two slots and a number for each live inner node,
+    /// and for the live positions.
+    pub fn partial(
+        alloc: Global,
+        tree: &'a Tree,
+        boxes: &'a [Box3],
+        live: &[u32],
+        seats: u32,
+    ) -> Result<(Handoff<'a>, Vec<HandSeat>), Memory>
+        requires task { IsTask (setting tree.now.keys boxes.now live.now seats) }
+        requires few { seats ≤ MOST_WORKERS }
+        requires rest { FitsButFor tree.now boxes.now live.now }
+        ensures over { IfOk result (λ r. setting_by r.0 ≡ setting tree.now.keys boxes.now live.now seats) }
+        ensures seats { IfOk result (λ r. AreFresh r.0 r.1.items) }
+    {
+        let (handoff, first) = make_live(alloc, tree, boxes, live, seats)?;
         let seats = seats_of(&handoff, alloc, first)?;
         Ok((handoff, seats))
     }
@@ -76,14 +105,19 @@ impl<'a> Handoff<'a> {
         tally
     }
 
-    /// The packets of all children, and the tallies of all seats added up. The seats are all those of the handoff, in
-    /// any order, and each has ended. After `Memory` the handoff and the seats are dropped.
+    /// The packets of the children of all live nodes, in the order of their splits, and the tallies of all seats added
+    /// up. The seats are all those of the handoff, in any order, and each has ended. After `Memory` the handoff and the
+    /// seats are dropped.
     pub fn close(self, alloc: Global, mut seats: Vec<HandSeat>) -> Result<Fitted, Memory>
         requires seats { AreAll self seats.items }
-        ensures packets { IfOk result (λ r. AreFitted (given_by self.entry).keys (given_by self.entry).boxes r) }
+        ensures live { IfOk result (λ r. AreLiveFitted (setting_by self.entry) r) }
         ensures sum { IfOk result (λ r. IsSumOf seats.items r.tally) }
-        ensures counts { IfOk result (λ r. IsCounted (length (given_by self.entry).keys)
-            (given_by self.entry).seats r.tally) }
+        ensures live_counts { IfOk result (λ r. IsLiveCounted (setting_by self.entry) r.tally) }
+        // where all leaves are live, the place of a node is its split
+        ensures packets { IsWhole (setting_by self.entry) →
+            IfOk result (λ r. AreFitted (given_by self.entry).keys (given_by self.entry).boxes r) }
+        ensures counts { IsWhole (setting_by self.entry) →
+            IfOk result (λ r. IsCounted (length (given_by self.entry).keys) (given_by self.entry).seats r.tally) }
     {
         let Handoff { table, about } = self;
         let Some(last) = seats.pop() else {
@@ -96,15 +130,15 @@ impl<'a> Handoff<'a> {
             tally: of_last,
         } = last;
         let (seat, tally) = gather(&table.shared, seats, seat, of_last);
-        let nodes = about.keys.len() - 1;
-        let Ok(left) = Vec::with_capacity(alloc, nodes) else {
+        let count = count_of(&about);
+        let Ok(left) = Vec::with_capacity(alloc, count) else {
             return Err(Memory);
         };
-        let Ok(right) = Vec::with_capacity(alloc, nodes) else {
+        let Ok(right) = Vec::with_capacity(alloc, count) else {
             return Err(Memory);
         };
         let closed = table.close_with(seat);
-        let (left, right) = read_out(closed, left, right, nodes, &about);
+        let (left, right) = read_out(closed, left, right, count, &about);
         Ok(Fitted { left, right, tally })
     }
 }

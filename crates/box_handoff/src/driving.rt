@@ -1,8 +1,11 @@
 //! Every seat of a handoff driven by a thread.
 ghost use Rattle.std.specs.Prelude.{◌≡◌, ◌<◌, ◌≤◌, ℕ, length, All, IfOk, slice_index_or};
 ghost use Rattle.morton_key.specs.Keys.{IsLawful};
-ghost use Rattle.box_handoff.specs.Packets.{AreFitted};
-ghost use Rattle.box_handoff.specs.Counts.{IsCounted};
+ghost use Rattle.arrival_core.specs.declared.packets.TheConstants.{MOST_WORKERS};
+ghost use Rattle.arrival_core.specs.Settings.{setting};
+ghost use Rattle.arrival_core.specs.Tasks.{IsTask, FitsButFor};
+ghost use Rattle.box_handoff.specs.Packets.{AreFitted, AreLiveFitted};
+ghost use Rattle.box_handoff.specs.Counts.{IsCounted, IsLiveCounted};
 ghost use Rattle.box_handoff.specs.Seats.{given_by, AreFresh, AreAll};
 ghost use Rattle.box_handoff.specs.Driving.{IsReady, Climbs, WereDone};
 
@@ -13,6 +16,7 @@ use crate::ways::Ways;
 use fixed_box::Box3;
 use morton_key::Key;
 use outside::{Gate, Memory};
+use radix_tree::Tree;
 use std::alloc::Global;
 use std::thread::{self, Threads};
 
@@ -83,7 +87,7 @@ pub fn fit<R: Threads + Sync, W: Ways, G: Gate>(
     requires two { 1 < length keys.now }
     requires count { length boxes.now ≡ length keys.now }
     requires some { 0 < workers }
-    requires few { workers ≤ 64 }
+    requires few { workers ≤ MOST_WORKERS }
     requires ways { W.stands ways.now keys.now }
     ensures packets { IfOk result (λ r. AreFitted keys.now boxes.now r) }
     ensures counts { IfOk result (λ r. IsCounted (length keys.now) workers r.tally) }
@@ -91,4 +95,32 @@ pub fn fit<R: Threads + Sync, W: Ways, G: Gate>(
     let (handoff, mut seats) = Handoff::fresh(alloc, keys, boxes, workers)?;
     climb_all(rt, &handoff, &mut seats, ways, gate);
     handoff.close(alloc, seats)
+}
+
+/// The packets of the children of all live nodes, fitted by so many workers: `live` are the positions whose boxes may
+/// have changed, rising, one at least, and the tree is fitted to some list of boxes that gives the triangle at every other
+/// position the same box as `boxes` does.
+///
+/// The packets stand in the order of the nodes' splits, and those of no other node are worked out. It takes time and
+/// memory in proportion to the live nodes, but for the times of a search among them.
+pub fn fit_live<R: Threads + Sync, W: Ways, G: Gate>(
+    rt: &R,
+    alloc: Global,
+    ways: &W,
+    gate: &G,
+    tree: &Tree,
+    boxes: &[Box3],
+    live: &[u32],
+    workers: u32,
+) -> Result<Fitted, Memory>
+    requires task { IsTask (setting tree.now.keys boxes.now live.now workers) }
+    requires few { workers ≤ MOST_WORKERS }
+    requires rest { FitsButFor tree.now boxes.now live.now }
+    requires ways { W.stands ways.now tree.now.keys }
+    ensures packets { IfOk result (λ r. AreLiveFitted (setting tree.now.keys boxes.now live.now workers) r) }
+    ensures counts { IfOk result (λ r. IsLiveCounted (setting tree.now.keys boxes.now live.now workers) r.tally) }
+{
+    let (partial, mut all) = Handoff::partial(alloc, tree, boxes, live, workers)?;
+    climb_all(rt, &partial, &mut all, ways, gate);
+    partial.close(alloc, all)
 }

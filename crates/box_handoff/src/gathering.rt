@@ -1,14 +1,16 @@
 //! Seats that have ended are made one, and the packets of a closed table are read out.
 ghost use Rattle.std.specs.Prelude.{◌≡◌, ◌<◌, ◌+◌, ◌*◌, ◌≤◌, ℕ, [], length, All, slice_index_or, vec_capacity, true, false};
 ghost use Rattle.arrival_core.specs.declared.packets.Side.TheVariants.{Left, Right};
-ghost use Rattle.arrival_core.specs.Tasks.{IsWhole};
+ghost use Rattle.arrival_core.specs.declared.packets.TheConstants.{MOST_WORKERS};
 ghost use Rattle.box_handoff.specs.Made.{given_in};
-ghost use Rattle.box_handoff.specs.Entries.{IsGiven, frame, given_of};
-ghost use Rattle.box_handoff.specs.Packets.{ArePackets};
+ghost use Rattle.box_handoff.specs.LiveNodes.{splits_of};
+ghost use Rattle.box_handoff.specs.Entries.{IsGiven, frame, numbers, given_of};
+ghost use Rattle.box_handoff.specs.Packets.{ArePacketsOf};
 ghost use Rattle.box_handoff.specs.Plays.{IsSmall};
 ghost use Rattle.box_handoff.specs.Seats.{seat_fits, seat_steps};
 ghost use Rattle.box_handoff.specs.Gathering.{HasEnded, Covers, AllEnded, AreKept, fits_of, steps_of};
 
+use crate::numbering::spot_of;
 use crate::plays::{Gathers, HandTable, TableSeat};
 use crate::seats::HandSeat;
 use crate::slots::{SlotPacket, unpack};
@@ -30,7 +32,7 @@ pub fn gather(
     requires given { first.me.0.given ≡ given_in table.now.key }
     requires over { AllEnded first.me.0 }
     requires ended { All (HasEnded (given_in table.now.key) table.now.table_id) seats.items }
-    requires few { length seats.items < 64 }
+    requires few { length seats.items < MOST_WORKERS }
     requires start { IsSmall start }
     requires fits { start.fits ≡ fits_of first.me.0 }
     requires steps { start.steps ≡ steps_of first.me.0 }
@@ -64,27 +66,28 @@ pub fn read_out(
     mut closed: Closed<SlotPacket, Global>,
     mut left: Vec<Packet>,
     mut right: Vec<Packet>,
-    nodes: usize,
+    count: usize,
     about: &About<'_>,
 ) -> (Vec<Packet>, Vec<Packet>)
     requires given { IsGiven (given_of about.now) }
     requires full { (k : ℕ) → k < closed.slots.len → slice_index_or closed.slots.filled k false ≡ true }
-    requires count { closed.slots.len ≡ 2 * (frame (given_of about.now)).nodes }
+    requires places { closed.slots.len ≡ 2 * (numbers (given_of about.now)).count }
     requires kept { AreKept (given_of about.now) closed.slots.items }
-    requires nodes { nodes ≡ (frame (given_of about.now)).nodes }
+    requires count { count ≡ (numbers (given_of about.now)).count }
     requires left_empty { left.items ≡ [] }
     requires right_empty { right.items ≡ [] }
-    requires left_room { nodes ≤ vec_capacity left }
-    requires right_room { nodes ≤ vec_capacity right }
-    ensures left { ArePackets about.now.keys.now about.now.boxes.now Left nodes result.0.items }
-    ensures right { ArePackets about.now.keys.now about.now.boxes.now Right nodes result.1.items }
+    requires left_room { count ≤ vec_capacity left }
+    requires right_room { count ≤ vec_capacity right }
+    ensures left { ArePacketsOf about.now.keys.now about.now.boxes.now (splits_of (frame (given_of about.now))) Left
+        (length (splits_of (frame (given_of about.now)))) result.0.items }
+    ensures right { ArePacketsOf about.now.keys.now about.now.boxes.now (splits_of (frame (given_of about.now))) Right
+        (length (splits_of (frame (given_of about.now)))) result.1.items }
 {
-    for t in 0..nodes {
-        let split = t as u32;
-        left.push_reserved(unpack(split, Side::Left, &closed.take(2 * t)));
-        right.push_reserved(unpack(split, Side::Right, &closed.take(2 * t + 1)));
+    for i in 0..count {
+        let split = spot_of(about, i);
+        left.push_reserved(unpack(split, Side::Left, &closed.take(2 * i)));
+        right.push_reserved(unpack(split, Side::Right, &closed.take(2 * i + 1)));
     }
     closed.free();
-    let _ = about;
     (left, right)
 }

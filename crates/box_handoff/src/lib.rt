@@ -8,7 +8,9 @@ mod driving;
 mod fitted;
 mod gathering;
 mod handoffs;
+mod laying;
 mod making;
+mod numbering;
 mod passing;
 mod plays;
 mod seats;
@@ -21,7 +23,7 @@ mod words;
 
 pub use arrival_core::{Load, Packet, Phase, Side, Tally, Up};
 pub use assembling::assemble;
-pub use driving::fit;
+pub use driving::{fit, fit_live};
 pub use fitted::{Built, Fitted};
 pub use handoffs::Handoff;
 pub use seats::HandSeat;

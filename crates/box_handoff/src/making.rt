@@ -1,18 +1,22 @@
 //! A handoff is made, with one seat for each worker: the first seat has the entries of all numbers, and gives its last
 //! entry away until it has one.
-ghost use Rattle.std.specs.Prelude.{◌≡◌, ◌<◌, ◌≤◌, ◌^◌, [], length, IfOk, suc, replicate, false};
+ghost use Rattle.std.specs.Prelude.{◌≡◌, ◌<◌, ◌≤◌, ◌^◌, [], length, IfOk, suc, replicate, false, None};
 ghost use Rattle.morton_key.specs.Keys.{IsLawful};
-ghost use Rattle.arrival_core.specs.Tasks.{IsWhole};
+ghost use Rattle.arrival_core.specs.Settings.{setting};
+ghost use Rattle.arrival_core.specs.Tasks.{IsTask, IsWhole, FitsButFor};
 ghost use Rattle.box_handoff.specs.Made.{given_in};
-ghost use Rattle.box_handoff.specs.Entries.{setting_of, given_of, one, unbegun, unbegun_below, first_view};
+ghost use Rattle.arrival_core.specs.declared.packets.TheConstants.{MOST_WORKERS};
+ghost use Rattle.box_handoff.specs.Entries.{IsGiven, setting_of, given_of, frame, numbers, one, unbegun, unbegun_below, first_view};
+ghost use Rattle.box_handoff.specs.Starting.{Starts};
 ghost use Rattle.box_handoff.specs.Slots.{blank};
 ghost use Rattle.box_handoff.specs.Made.{ArePositions};
 ghost use Rattle.box_handoff.specs.Gathering.{AreUnbegun};
-ghost use Rattle.box_handoff.specs.Seats.{id_of, given_by, IsHandoff};
+ghost use Rattle.box_handoff.specs.Seats.{id_of, given_by, setting_by, IsHandoff};
 
 use crate::Tally;
 use crate::climbing::batches_of;
 use crate::handoffs::Handoff;
+use crate::laying::{Laid, Moves, lay_down};
 use crate::plays::{HandTable, Parts, TableSeat};
 use crate::seats::HandSeat;
 use crate::slots::{SlotPacket, blank_slot};
@@ -21,11 +25,12 @@ use atomic_table::Table;
 use fixed_box::Box3;
 use morton_key::Key;
 use outside::Memory;
+use radix_tree::Tree;
 use std::alloc::{AllocError, Global};
 use std::snapshot::Snapshot;
 
 /// So many words that are 0.
-fn zeros(alloc: Global, count: usize) -> Result<Vec<u64>, Memory>
+pub fn zeros(alloc: Global, count: usize) -> Result<Vec<u64>, Memory>
     ensures { IfOk result (λ v. v.items ≡ replicate count 0) }
 {
     vec![in alloc; 0u64; count].map_err(|_| Memory)
@@ -61,8 +66,9 @@ pub fn whole<'a>(
     requires two { 1 < length keys.now }
     requires count { length boxes.now ≡ length keys.now }
     requires some { 0 < seats }
-    requires few { seats ≤ 64 }
+    requires few { seats ≤ MOST_WORKERS }
     ensures whole { IfOk result (λ a. IsWhole (setting_of (given_of a))) }
+    ensures spots { IfOk result (λ a. (given_of a).spots ≡ None) }
     ensures keys { IfOk result (λ a. a.keys.now ≡ keys.now) }
     ensures boxes { IfOk result (λ a. a.boxes.now ≡ boxes.now) }
     ensures seats { IfOk result (λ a. a.seats ≡ seats) }
@@ -73,12 +79,35 @@ pub fn whole<'a>(
         boxes,
         live,
         seats,
+        spots: None,
     })
 }
 
-/// The first seat has the entries of all numbers, none begun.
-pub fn make<'a>(alloc: Global, about: About<'a>) -> Result<(Handoff<'a>, TableSeat), Memory>
+/// A table with these words and slots, which are those of the start. The first seat has the entries of all numbers, none
+/// begun.
+pub fn make<'a>(
+    alloc: Global,
+    about: About<'a>,
+    words: Vec<u64>,
+    slots: Vec<SlotPacket>,
+) -> Result<(Handoff<'a>, TableSeat), Memory>
+    requires given { IsGiven (given_of about) }
+    requires start { Starts (frame (given_of about)) (numbers (given_of about)) words.items slots.items }
+    ensures made { IfOk result (λ r. IsHandoff r.0) }
+    ensures about { IfOk result (λ r. r.0.about ≡ about.entry) }
+    ensures seat { IfOk result (λ r. (r.1.table_id ≡ id_of r.0) × (r.1.me ≡ (first_view (given_of about.entry), []))) }
+{
+    let about_now = Snapshot::of(&about);
+    let Ok((table, seat)) = Table::new(alloc, words.as_slice(), slots, &about_now) else {
+        return Err(Memory);
+    };
+    Ok((Handoff { table, about }, seat))
+}
+
+/// A table over all leaves: nothing is set, and no packet stands in a slot.
+pub fn make_whole<'a>(alloc: Global, about: About<'a>) -> Result<(Handoff<'a>, TableSeat), Memory>
     requires whole { IsWhole (setting_of (given_of about)) }
+    requires spots { (given_of about).spots ≡ None }
     ensures made { IfOk result (λ r. IsHandoff r.0) }
     ensures about { IfOk result (λ r. r.0.about ≡ about.entry) }
     ensures seat { IfOk result (λ r. (r.1.table_id ≡ id_of r.0) × (r.1.me ≡ (first_view (given_of about.entry), []))) }
@@ -87,11 +116,48 @@ pub fn make<'a>(alloc: Global, about: About<'a>) -> Result<(Handoff<'a>, TableSe
     let nodes = about.keys.len() - 1;
     let words = zeros(alloc, batches + nodes)?;
     let slots = blank_slots(alloc, 2 * nodes)?;
-    let about_now = Snapshot::of(&about);
-    let Ok((table, seat)) = Table::new(alloc, words.as_slice(), slots, &about_now) else {
+    make(alloc, about, words, slots)
+}
+
+/// A table over the live nodes alone. What is not live rests in its place already.
+pub fn make_live<'a>(
+    alloc: Global,
+    tree: &'a Tree,
+    boxes: &'a [Box3],
+    live: &[u32],
+    seats: u32,
+) -> Result<(Handoff<'a>, TableSeat), Memory>
+    requires task { IsTask (setting tree.now.keys boxes.now live.now seats) }
+    requires few { seats ≤ MOST_WORKERS }
+    requires rest { FitsButFor tree.now boxes.now live.now }
+    ensures made { IfOk result (λ r. IsHandoff r.0) }
+    ensures setting { IfOk result (λ r. setting_by r.0 ≡ setting tree.now.keys boxes.now live.now seats) }
+    ensures seat { IfOk result (λ r. (r.1.table_id ≡ id_of r.0) × (r.1.me ≡ (first_view (given_by r.0), []))) }
+{
+    let keys = tree.keys();
+    let moves = Moves {
+        tree,
+        boxes,
+        live,
+        seats,
+    };
+    let Laid {
+        spots,
+        words,
+        slots,
+    } = lay_down(alloc, &moves)?;
+    let Ok(live) = Vec::from_slice(alloc, live) else {
         return Err(Memory);
     };
-    Ok((Handoff { table, about }, seat))
+    let about = About {
+        keys,
+        boxes,
+        live,
+        seats,
+        spots: Some(spots),
+    };
+    let (handoff, seat) = make(alloc, about, words, slots)?;
+    Ok((handoff, seat))
 }
 
 /// Splits off the last of the entries.

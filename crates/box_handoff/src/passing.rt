@@ -11,9 +11,11 @@ ghost use Rattle.box_handoff.specs.Entries.{IsGiven, one, worker_of};
 ghost use Rattle.box_handoff.specs.Plays.{mine, IsSmall};
 ghost use Rattle.box_handoff.specs.Climbs.{Climbed, IsCarried, came_first, finds_other, leaves_with, came_second};
 
+use crate::numbering::place_of;
 use crate::plays::{HandTable, TableSeat};
 use crate::slots::unpack;
-use crate::steps::{across, arrive, collect, leave, look, open, place_of, put, slot_of};
+use crate::steps::{across, arrive, collect, leave, look, open, put, slot_of};
+use crate::views::About;
 use crate::{Load, Packet, Side};
 use fixed_box::union;
 
@@ -38,7 +40,14 @@ fn joined(load: &Load, found: &Packet) -> Packet
 }
 
 /// Leaves a load's packet at its node. The answer is whether the other side had arrived before.
-fn come(table: &HandTable<'_>, seat: &mut TableSeat, base: usize, load: &Load) -> bool
+fn come(
+    table: &HandTable<'_>,
+    about: &About<'_>,
+    seat: &mut TableSeat,
+    base: usize,
+    load: &Load,
+) -> bool
+    requires key { table.now.key.value ≡ about.now }
     requires table { seat.old.table_id ≡ table.now.table_id }
     requires words { let f = frame_in table.now.key in (base ≡ f.batches)
         × (table.now.table_id.words ≡ f.batches + (numbers_in table.now.key).count) }
@@ -54,7 +63,7 @@ fn come(table: &HandTable<'_>, seat: &mut TableSeat, base: usize, load: &Load) -
         worker_of (mine seat.new.me) ≡ came_first (frame_in table.now.key) (mine seat.old.me) }
     ensures second { result ≡ true → worker_of (mine seat.new.me) ≡ finds_other load.now (mine seat.old.me) }
 {
-    let place = place_of(load);
+    let place = place_of(about, load.split);
     open(table, seat, base, place, load);
     put(table, seat, place, load);
     arrive(table, seat, base, place, load)
@@ -80,7 +89,14 @@ fn found_there(table: &HandTable<'_>, seat: &mut TableSeat, place: usize, load: 
 }
 
 /// Takes what the other side left at a load's node, and gives the node back. The answer is the other side's packet.
-fn take_other(table: &HandTable<'_>, seat: &mut TableSeat, base: usize, load: &Load) -> Packet
+fn take_other(
+    table: &HandTable<'_>,
+    about: &About<'_>,
+    seat: &mut TableSeat,
+    base: usize,
+    load: &Load,
+) -> Packet
+    requires key { table.now.key.value ≡ about.now }
     requires table { seat.old.table_id ≡ table.now.table_id }
     requires words { let f = frame_in table.now.key in (base ≡ f.batches)
         × (table.now.table_id.words ≡ f.batches + (numbers_in table.now.key).count) }
@@ -95,7 +111,7 @@ fn take_other(table: &HandTable<'_>, seat: &mut TableSeat, base: usize, load: &L
     ensures worker { worker_of (mine seat.new.me) ≡ leaves_with (frame_in table.now.key) load.now result
         (worker_of (mine seat.old.me)) }
 {
-    let place = place_of(load);
+    let place = place_of(about, load.split);
     collect(table, seat, base, place, load);
     let found = found_there(table, seat, place, load);
     leave(table, seat, base, place, load, &found);
@@ -105,10 +121,12 @@ fn take_other(table: &HandTable<'_>, seat: &mut TableSeat, base: usize, load: &L
 /// Hands a load to its node. The answer is the node's packet, where the other side had arrived before.
 pub fn pass_node(
     table: &HandTable<'_>,
+    about: &About<'_>,
     seat: &mut TableSeat,
     base: usize,
     load: &Load,
 ) -> Option<Packet>
+    requires key { table.now.key.value ≡ about.now }
     requires table { seat.old.table_id ≡ table.now.table_id }
     requires words { let f = frame_in table.now.key in (base ≡ f.batches)
         × (table.now.table_id.words ≡ f.batches + (numbers_in table.now.key).count) }
@@ -126,9 +144,9 @@ pub fn pass_node(
     ensures second { IfSome result (λ p.
         worker_of (mine seat.new.me) ≡ came_second (frame_in table.now.key) load.now.split p (mine seat.old.me)) }
 {
-    if !come(table, seat, base, load) {
+    if !come(table, about, seat, base, load) {
         return None;
     }
-    let found = take_other(table, seat, base, load);
+    let found = take_other(table, about, seat, base, load);
     Some(joined(load, &found))
 }

@@ -27,14 +27,6 @@ pub fn across(side: Side) -> Side
     }
 }
 
-/// The number of a node among those that have a word and two slots.
-pub fn place_of(load: &Load) -> usize
-    ensures is { result ≡ load.now.split }
-    ensures small { result < 2 ^ 32 }
-{
-    load.split as usize
-}
-
 /// The slot of a side of a node.
 pub fn slot_of(place: usize, side: Side) -> usize
     requires { place < 2 ^ 60 }

@@ -19,6 +19,8 @@ pub struct Given {
     pub boxes: LinkedList<Box3>,
     pub live: LinkedList<u32>,
     pub seats: u64,
+    /// The splits of the live nodes, in order. Where there is no list, all nodes are live.
+    pub spots: Option<LinkedList<u32>>,
 }
 
 pub struct Entry {
@@ -42,4 +44,6 @@ pub struct About<'a> {
     pub boxes: &'a [Box3],
     pub live: Vec<u32>,
     pub seats: u32,
+    /// The splits of the live nodes, in order. Where there is no list, all nodes are live.
+    pub spots: Option<Vec<u32>>,
 }

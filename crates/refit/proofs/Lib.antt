@@ -7,3 +7,4 @@ pub mod StaleParts
 pub mod StaleTrees
 pub mod FittedRows
 pub mod WholeTrees
+pub mod PutRows

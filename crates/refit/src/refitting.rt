@@ -82,7 +82,7 @@ fn fit_under(tree: &mut Tree, boxes: &[Box3], moved: &[u32], child: Child) -> Bo
 /// tree is fitted to. Only nodes with a moved leaf below them are fitted, each once, after all below it, so the time
 /// grows with these nodes, and for each with the logarithm of the moved leaves below it. The recursion is at most one
 /// call deeper than the tree is high. It takes no memory.
-pub fn refit(tree: &mut Tree, boxes: &[Box3], moved: &[u32])
+pub fn refit_in_turn(tree: &mut Tree, boxes: &[Box3], moved: &[u32])
     requires rising { IsNonDecreasing moved.now }
     requires stale { IsFittedBut moved.now tree.old boxes.now }
     ensures shape { KeepsShape tree.old tree.new }

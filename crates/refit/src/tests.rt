@@ -3,7 +3,7 @@
 ghost use Rattle.std.specs.Prelude.{IfOk};
 ghost use Rattle.radix_tree.specs.Fit.{IsFitted};
 
-use crate::{moved, refit};
+use crate::{moved, refit_in_turn};
 use fixed_box::{Box3, Point, in_world};
 use morton_key::order;
 use outside::Memory;
@@ -49,7 +49,7 @@ fn refitted<R: Abort>(
     assert!(rt; boxes.len() == before.len());
     let mut tree = built(rt, alloc, before)?;
     let moved = moved(alloc, &tree, before, boxes)?;
-    refit(&mut tree, boxes, &moved);
+    refit_in_turn(&mut tree, boxes, &moved);
     Ok((tree, moved))
 }
 

@@ -21,7 +21,7 @@ use karras_build::order_by_threads;
 use obj_text::{Face, MOST_FACES};
 use outside::{Gate, Memory};
 use radix_tree::Tree;
-use refit::refit;
+use refit::refit_in_turn;
 use std::alloc::Global;
 use std::snapshot::Snapshot;
 use std::thread::Threads;
@@ -135,7 +135,7 @@ impl Index {
         }
         self.fit_boxes(alloc, points, faces)?;
         let moved = self.list.moved(alloc, &self.boxes)?;
-        refit(&mut self.tree, &self.boxes, &moved);
+        refit_in_turn(&mut self.tree, &self.boxes, &moved);
         self.list.refit(&self.boxes, &moved);
         self.marks.clear();
         Ok(())

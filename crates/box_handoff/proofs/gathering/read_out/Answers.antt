@@ -1,42 +1,71 @@
-use Rattle.std.proofs.Common.{arith, refl, ap, ◌∙◌, subst, ◌+◌, ◌*◌, ◌<◌, ℕ, List, Bool, false, set, get_or}
+use Rattle.std.proofs.Common.{◌≡◌, arith, refl, ap, ◌∙◌, subst, ◌+◌, ◌*◌, ◌<◌, ℕ, List, Bool, false, set, get_or, length}
+use Rattle.arrival_core.specs.declared.packets.Side.TheVariants.{Left, Right}
+use Rattle.box_handoff.specs.LiveNodes.{splits_of}
 use Rattle.box_handoff.specs.Entries.{given_of, frame}
+use Rattle.box_handoff.specs.Packets.{ArePacketsOf}
 use Rattle.box_handoff.proofs.FrameOf.{nodes_low}
+use Rattle.box_handoff.proofs.SplitLists.{listed_shown}
+use Rattle.box_handoff.proofs.NumberLaws.{counted}
 use Rattle.box_handoff.proofs.ReadLaws.{taken_is, one_more, still_full, now_empty}
 use Rattle.box_handoff.proofs.gathering.read_out.Goals as goal
 
-pub overflow_cast-split : goal.overflow_cast-split
-overflow_cast-split c = let n = nodes_low _ c.requires.given in omega (arith, n, c.requires.nodes)
-
 pub unpack-requires : goal.unpack-requires
-unpack-requires c = let n = nodes_low _ c.requires.given in omega (arith, n, c.requires.nodes)
+unpack-requires c =
+    let n = nodes_low _ c.requires.given in
+    let k = counted _ c.requires.given in
+    let s = (listed_shown (frame (given_of c.args.about.now)) c.loop-i.i
+    (omega (arith, c.loop-i-test.true, c.requires.count, k))).0 in
+    omega (arith, n, s, c.spot_of-split.ensures)
 
-pub unpack-requires-in-loop-t : goal.unpack-requires-in-loop-t
-unpack-requires-in-loop-t c = let n = nodes_low _ c.requires.given in omega (arith, n, c.requires.nodes)
+pub unpack-requires-in-loop-i : goal.unpack-requires-in-loop-i
+unpack-requires-in-loop-i c =
+    let n = nodes_low _ c.requires.given in
+    let k = counted _ c.requires.given in
+    let s = (listed_shown (frame (given_of c.args.about.now)) c.loop-i.i
+    (omega (arith, c.loop-i-test.true, c.requires.count, k))).0 in
+    omega (arith, n, s, c.spot_of-split.ensures)
 
-pub loop-t-preserved : goal.loop-t-preserved
-loop-t-preserved c =
-    let i = c.loop-t.invariant.0 in
+pub loop-i-preserved : goal.loop-i-preserved
+loop-i-preserved c =
+    let i = c.loop-i.invariant.0 in
     let a = c.take.ensures.others in
-    let b = c.take-in-loop-t.ensures.others in
-    let lt : c.loop-t.t < (frame (given_of c.args.about.now)).nodes = omega
-    (arith, c.loop-t-test.true, c.requires.nodes) in
-    let emptied = b.1 ∙ ap (λ (l : List Bool). set l (2 * c.loop-t.t + 1) false) a.1 in
+    let b = c.take-in-loop-i.ensures.others in
+    let k = counted _ c.requires.given in
+    let lt : c.loop-i.i < length (splits_of (frame (given_of c.args.about.now))) = omega
+    (arith, c.loop-i-test.true, c.requires.count, k) in
+    let emptied = b.1 ∙ ap (λ (l : List Bool). set l (2 * c.loop-i.i + 1) false) a.1 in
     let count = b.2 ∙ a.2 in (
       record {
         same = b.0 ∙ a.0 ∙ i.same;
         places = count ∙ i.places;
-        full = λ k low high. ap (λ (l : List Bool). get_or l k false) emptied ∙ still_full _ c.loop-t.t k low
+        full = λ k low high. ap (λ (l : List Bool). get_or l k false) emptied ∙ still_full _ c.loop-i.i k low
             ∙ i.full k (omega (arith, low)) (subst (λ (n : ℕ). k < n) count high);
-        empty = λ k low. ap (λ (l : List Bool). get_or l k false) emptied ∙ now_empty _ c.loop-t.t i.empty k low;
-        lefts = one_more _ _ _ _ _ _ _ i.lefts
-            (taken_is _ c.requires.given _ _ _ (2 * c.loop-t.t) _ _ _ c.requires.kept i.same lt
-            (omega arith) c.take.ensures.value c.unpack.ensures)
+        empty = λ k low. ap (λ (l : List Bool). get_or l k false) emptied ∙ now_empty _ c.loop-i.i i.empty k low;
+        lefts = one_more _ _ _ _ _ _ _ _ i.lefts
+            (taken_is _ c.requires.given _ _ c.loop-i.i (2 * c.loop-i.i) _ _ _ _ c.requires.kept i.same lt
+            (omega arith) c.spot_of-split.ensures c.take.ensures.value c.unpack.ensures)
             c.push_reserved.ensures.items;
-        rights = one_more _ _ _ _ _ _ _ i.rights
-            (taken_is _ c.requires.given _ _ _ (2 * c.loop-t.t + 1) _ _ _ c.requires.kept (a.0
-            ∙ i.same) lt refl c.take-in-loop-t.ensures.value c.unpack-in-loop-t.ensures)
-            c.push_reserved-in-loop-t.ensures.items;
+        rights = one_more _ _ _ _ _ _ _ _ i.rights
+            (taken_is _ c.requires.given _ _ c.loop-i.i (2 * c.loop-i.i + 1) _ _ _ _ c.requires.kept (a.0
+            ∙ i.same) lt refl c.spot_of-split.ensures c.take-in-loop-i.ensures.value c.unpack-in-loop-i.ensures)
+            c.push_reserved-in-loop-i.ensures.items;
       },
-      omega (arith, c.push_reserved.ensures.capacity, c.loop-t.invariant.1),
-      omega (arith, c.push_reserved-in-loop-t.ensures.capacity, c.loop-t.invariant.2),
+      omega (arith, c.push_reserved.ensures.capacity, c.loop-i.invariant.1),
+      omega (arith, c.push_reserved-in-loop-i.ensures.capacity, c.loop-i.invariant.2),
     )
+
+pub returns-clause-left : goal.returns-clause-left
+returns-clause-left c =
+    let k = counted _ c.requires.given in
+    let end : c.loop-i.i ≡ length (splits_of (frame (given_of c.args.about.now))) = omega
+    (arith, c.loop-i-test.false, c.loop-i.auto.i-end, c.requires.count, k) in
+    subst (λ (n : ℕ). ArePacketsOf c.args.about.now.keys.now c.args.about.now.boxes.now
+    (splits_of (frame (given_of c.args.about.now))) Left n c.loop-i.left.items) end c.loop-i.invariant.0.lefts
+
+pub returns-clause-right : goal.returns-clause-right
+returns-clause-right c =
+    let k = counted _ c.requires.given in
+    let end : c.loop-i.i ≡ length (splits_of (frame (given_of c.args.about.now))) = omega
+    (arith, c.loop-i-test.false, c.loop-i.auto.i-end, c.requires.count, k) in
+    subst (λ (n : ℕ). ArePacketsOf c.args.about.now.keys.now c.args.about.now.boxes.now
+    (splits_of (frame (given_of c.args.about.now))) Right n c.loop-i.right.items) end c.loop-i.invariant.0.rights

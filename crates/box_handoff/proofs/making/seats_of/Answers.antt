@@ -3,8 +3,7 @@ use Rattle.box_handoff.specs.declared.seats.HandSeat.{HandSeat}
 use Rattle.box_handoff.specs.Seats.{given_by, id_of}
 use Rattle.box_handoff.specs.Gathering.{AreUnbegun}
 use Rattle.box_handoff.proofs.Parting.{all_parted, unbegun_is}
-use Rattle.box_handoff.proofs.LeafLaws.{nodes_are}
-use Rattle.box_handoff.proofs.FrameOf.{count_is}
+use Rattle.box_handoff.proofs.FrameOf.{frame_is}
 use Rattle.box_handoff.proofs.making.seats_of.Goals as goal
 
 pub returns-clause-fresh : goal.returns-clause-fresh
@@ -17,9 +16,7 @@ returns-clause-fresh c =
 
 pub part-seat-requires-clause-words : goal.part-seat-requires-clause-words
 part-seat-requires-clause-words c =
-    let n = nodes_are (given_by c.args.handoff.now) in
-    let k = count_is (given_by c.args.handoff.now) in omega
-    (arith, n, k, c.requires.made.words, c.requires.made.whole.two)
+    let b = (frame_is _ c.requires.made.given).some_batch in omega (arith, b, c.requires.made.words)
 
 pub loop-number-preserved : goal.loop-number-preserved
 loop-number-preserved c =

@@ -1,16 +1,26 @@
-use Rattle.std.proofs.Common.{ap, ◌∙◌}
+use Rattle.std.proofs.Common.{subst, ap, ◌∙◌}
+use Rattle.box_handoff.specs.declared.views.About.{About}
+use Rattle.box_handoff.specs.LiveNodes.{Shown}
+use Rattle.box_handoff.specs.Entries.{IsGiven, frame, given_of}
 use Rattle.box_handoff.specs.Made.{frame_in}
 use Rattle.box_handoff.specs.Plays.{mine}
-use Rattle.box_handoff.proofs.FrameOf.{place_is}
+use Rattle.box_handoff.proofs.NumberLaws.{place_there}
 use Rattle.box_handoff.proofs.GrowLaws.{grew_came}
 use Rattle.box_handoff.proofs.PassLaws.{was_small, turned_back, found_other}
 use Rattle.box_handoff.proofs.passing.come.Goals as goal
 
+pub place_of-place-requires-clause-given : goal.place_of-place-requires-clause-given
+place_of-place-requires-clause-given c = subst (λ (a : About). IsGiven (given_of a)) c.requires.key c.requires.given
+
+pub place_of-place-requires-clause-seen : goal.place_of-place-requires-clause-seen
+place_of-place-requires-clause-seen c = subst (λ (a : About). Shown (frame (given_of a)) c.args.load.now.split)
+    c.requires.key (c.requires.load.node, c.requires.load.live)
+
 pub open-requires-clause-place : goal.open-requires-clause-place
-open-requires-clause-place c = place_is _ _ _ c.requires.load c.place_of-place.ensures.is
+open-requires-clause-place c = place_there _ _ _ _ c.requires.key c.place_of-place.ensures.place
 
 pub arrive-requires-clause-place : goal.arrive-requires-clause-place
-arrive-requires-clause-place c = place_is _ _ _ c.requires.load c.place_of-place.ensures.is
+arrive-requires-clause-place c = place_there _ _ _ _ c.requires.key c.place_of-place.ensures.place
 
 pub returns-clause-climbed : goal.returns-clause-climbed
 returns-clause-climbed c = record {

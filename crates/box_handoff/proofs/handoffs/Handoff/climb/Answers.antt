@@ -1,11 +1,12 @@
 use Rattle.std.proofs.Common.{arith, sym, subst, ◌≡◌, ◌+◌}
 use Rattle.box_handoff.specs.declared.views.About.{About}
 use Rattle.box_handoff.specs.Entries.{IsGiven, given_of, frame, numbers}
-use Rattle.box_handoff.proofs.WholeFrame.{whole_given}
+use Rattle.box_handoff.proofs.FrameOf.{live_few}
 use Rattle.box_handoff.proofs.handoffs.Handoff.climb.Goals as goal
 
 pub batches_of-base-requires : goal.batches_of-base-requires
-batches_of-base-requires g c = let w = c.requires.own.made.whole in omega (arith, w.live_count, w.lawful.few)
+batches_of-base-requires g c = let ok = c.requires.own.made.given in let l = live_few _ ok in omega
+    (arith, l, ok.task.lawful.few)
 
 pub climb_with-tally-requires-clause-words : goal.climb_with-tally-requires-clause-words
 climb_with-tally-requires-clause-words g c = λ κs o. let made = c.requires.own.made in
@@ -15,4 +16,4 @@ climb_with-tally-requires-clause-words g c = λ κs o. let made = c.requires.own
 
 pub climb_with-tally-requires-clause-given : goal.climb_with-tally-requires-clause-given
 climb_with-tally-requires-clause-given g c = λ κs o. let made = c.requires.own.made in
-    subst (λ (a : About). IsGiven (given_of a)) (sym made.key_is) (whole_given _ made.whole)
+    subst (λ (a : About). IsGiven (given_of a)) (sym made.key_is) made.given

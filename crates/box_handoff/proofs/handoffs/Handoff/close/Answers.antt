@@ -1,14 +1,13 @@
-use Rattle.std.proofs.Common.{arith, ap, ◌∙◌, sym, subst, ◌<◌, ◌*◌, ℕ, length}
+use Rattle.std.proofs.Common.{arith, ap, ◌∙◌, sym, subst, ◌<◌, ℕ}
 use Rattle.std.specs.Prelude.{All}
-use Rattle.arrival_core.specs.Tasks.{IsWhole}
 use Rattle.box_handoff.specs.declared.views.About.{About}
 use Rattle.box_handoff.specs.declared.views.View.{View}
-use Rattle.box_handoff.specs.Entries.{setting_of, given_of}
-use Rattle.box_handoff.specs.Seats.{given_by, id_of}
+use Rattle.box_handoff.specs.Entries.{frame, setting_of, given_of}
+use Rattle.box_handoff.specs.Seats.{setting_by, id_of}
 use Rattle.box_handoff.specs.Gathering.{HasEnded, Covers, AreKept}
-use Rattle.box_handoff.specs.Counts.{IsCounted}
-use Rattle.box_handoff.proofs.FrameOf.{count_is}
-use Rattle.box_handoff.proofs.LeafLaws.{nodes_are}
+use Rattle.box_handoff.specs.Counts.{IsLiveCounted}
+use Rattle.box_handoff.proofs.FrameOf.{frame_is}
+use Rattle.box_handoff.proofs.WholeFrame.{fitted_all, counted_all}
 use Rattle.box_handoff.proofs.GatherLaws.{shorter, last_ended, rest_ended, seat_covers, seat_over, all_covered, kept}
 use Rattle.box_handoff.proofs.TallyLaws.{seat_adds_fits, seat_adds_steps, last_adds_fits, last_adds_steps, counts_are}
 use Rattle.box_handoff.proofs.handoffs.Handoff.close.Goals as goal
@@ -16,7 +15,7 @@ use Rattle.box_handoff.proofs.handoffs.Handoff.close.Goals as goal
 pub unreachable-requires : goal.unreachable-requires
 unreachable-requires c =
     let a = c.requires.seats in
-    omega (arith, c.in_default.ensures.cases.0, c.args.seats.ok, a.count, a.made.whole.one_worker)
+    omega (arith, c.in_default.ensures.cases.0, c.args.seats.ok, a.count, a.made.given.task.one_worker)
 
 pub gather-seat-requires-clause-table : goal.gather-seat-requires-clause-table
 gather-seat-requires-clause-table c = (last_ended _ _ _ _ c.requires.seats c.in-Some.ensures.items).own.table
@@ -24,8 +23,7 @@ gather-seat-requires-clause-table c = (last_ended _ _ _ _ c.requires.seats c.in-
 pub gather-seat-requires-clause-words : goal.gather-seat-requires-clause-words
 gather-seat-requires-clause-words c =
     let made = c.requires.seats.made in
-    let n = nodes_are (given_by c.args.self) in
-    let k = count_is (given_by c.args.self) in omega (arith, n, k, made.words, made.whole.two)
+    let b = (frame_is _ made.given).some_batch in omega (arith, b, made.words)
 
 pub gather-seat-requires-clause-home : goal.gather-seat-requires-clause-home
 gather-seat-requires-clause-home c = (last_ended _ _ _ _ c.requires.seats c.in-Some.ensures.items).own.home
@@ -46,7 +44,7 @@ gather-seat-requires-clause-ended c = subst (λ (a : About). All
 pub gather-seat-requires-clause-few : goal.gather-seat-requires-clause-few
 gather-seat-requires-clause-few c =
     let a = c.requires.seats in
-    let n = shorter _ _ _ c.in-Some.ensures.items in omega (arith, n, a.count, a.made.whole.few)
+    let n = shorter _ _ _ c.in-Some.ensures.items in omega (arith, n, a.count, a.made.given.few)
 
 pub gather-seat-requires-clause-start : goal.gather-seat-requires-clause-start
 gather-seat-requires-clause-start c = (last_ended _ _ _ _ c.requires.seats c.in-Some.ensures.items).own.small
@@ -59,36 +57,39 @@ pub gather-seat-requires-clause-steps : goal.gather-seat-requires-clause-steps
 gather-seat-requires-clause-steps c = seat_adds_steps _ _ _
     (last_ended _ _ _ _ c.requires.seats c.in-Some.ensures.items).own
 
-pub read_out-left-requires-clause-count : goal.read_out-left-requires-clause-count
-read_out-left-requires-clause-count c = let k = count_is (given_by c.args.self) in
-    c.close_with-closed.ensures.counts.1 ∙ c.requires.seats.made.slots ∙ ap (λ (n : ℕ). 2 * n) k
-
-pub read_out-left-requires-clause-nodes : goal.read_out-left-requires-clause-nodes
-read_out-left-requires-clause-nodes c = sym (nodes_are (given_by c.args.self))
+pub read_out-left-requires-clause-places : goal.read_out-left-requires-clause-places
+read_out-left-requires-clause-places c = c.close_with-closed.ensures.counts.1 ∙ c.requires.seats.made.slots
 
 pub read_out-left-requires-clause-kept : goal.read_out-left-requires-clause-kept
 read_out-left-requires-clause-kept c =
     let made = c.requires.seats.made in
     subst (λ (a : About). AreKept (given_of a) c.close_with-closed.result.slots.items) made.key_is
-    (kept (given_of c.args.self.table.shared.key.value) (subst (λ (a : About). IsWhole (setting_of (given_of a)))
-    (sym made.key_is) made.whole)
-    _ _ _ _ c.close_with-closed.ensures.values.2
+    (kept (given_of c.args.self.table.shared.key.value) _ _ _ _ c.close_with-closed.ensures.values.2
     (subst (λ (a : About). (k : ℕ) → k < (given_of a).seats → Covers k c.gather-seat.result.0.me.0) (sym made.key_is)
     (all_covered _ _ _ _ c.requires.seats c.in-Some.ensures.items c.in-Some.last.seat.me.0 c.gather-seat.result.0.me.0
     c.gather-seat.ensures.covers c.gather-seat.ensures.kept
     (seat_covers _ _ _ (last_ended _ _ _ _ c.requires.seats c.in-Some.ensures.items)))))
 
-pub returns-clause-counts : goal.returns-clause-counts
-returns-clause-counts c =
+pub returns-clause-live : goal.returns-clause-live
+unfolding frame
+returns-clause-live c = record { left = c.read_out-left.ensures.left; right = c.read_out-left.ensures.right }
+
+pub returns-clause-live_counts : goal.returns-clause-live_counts
+returns-clause-live_counts c =
     let made = c.requires.seats.made in
-    subst (λ (a : About). IsCounted (length (given_of a).keys) (given_of a).seats c.gather-seat.result.1) made.key_is
+    subst (λ (a : About). IsLiveCounted (setting_of (given_of a)) c.gather-seat.result.1) made.key_is
     (counts_are (given_of c.args.self.table.shared.key.value) _ _ _ _ c.close_with-closed.ensures.values.2
     (subst (λ (a : About). (k : ℕ) → k < (given_of a).seats → Covers k c.gather-seat.result.0.me.0) (sym made.key_is)
     (all_covered _ _ _ _ c.requires.seats c.in-Some.ensures.items c.in-Some.last.seat.me.0 c.gather-seat.result.0.me.0
     c.gather-seat.ensures.covers c.gather-seat.ensures.kept
     (seat_covers _ _ _ (last_ended _ _ _ _ c.requires.seats c.in-Some.ensures.items))))
-    (subst (λ (a : About). IsWhole (setting_of (given_of a))) (sym made.key_is) made.whole)
     c.gather-seat.result.1 c.gather-seat.ensures.fits c.gather-seat.ensures.steps)
+
+pub returns-clause-packets : goal.returns-clause-packets
+returns-clause-packets c whole = fitted_all (setting_by c.args.self) whole _ (returns-clause-live c)
+
+pub returns-clause-counts : goal.returns-clause-counts
+returns-clause-counts c whole = counted_all (setting_by c.args.self) whole _ (returns-clause-live_counts c)
 
 pub returns-clause-sum : goal.returns-clause-sum
 returns-clause-sum c = record {

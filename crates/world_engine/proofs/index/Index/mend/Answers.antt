@@ -21,8 +21,8 @@ pub moved-requires : goal.moved-requires
 moved-requires c = subst (IsOverAsMany c.fit_boxes.new.self.list) (sym c.deref.ensures.value)
     (over_as_many c.fit_boxes.new.self c.in_ok-fit_boxes.ensures.index.were)
 
-pub refit-requires-clause-stale : goal.refit-requires-clause-stale
-refit-requires-clause-stale c =
+pub refit_in_turn-requires-clause-stale : goal.refit_in_turn-requires-clause-stale
+refit_in_turn-requires-clause-stale c =
     let index = c.fit_boxes.new.self in
     let were = c.in_ok-fit_boxes.ensures.index.were in
     let but = subst (λ boxes. AreOverBut index.list.leaves boxes c.in_ok-moved.moved.items) c.deref.ensures.value
@@ -35,10 +35,10 @@ pub returns-clause-index : goal.returns-clause-index
 returns-clause-index c =
     let index = c.fit_boxes.new.self in
     let were = c.in_ok-fit_boxes.ensures.index.were in
-    let over = subst (IsOver c.refit-2.new.self) c.deref-4.ensures.value c.refit-2.ensures.over in
+    let over = subst (IsOver c.refit.new.self) c.deref-4.ensures.value c.refit.ensures.over in
     tree_fitted index c.args.points.now c.args.faces.now c.in_ok-fit_boxes.ensures.index
-    c.deref-2.result.now c.refit.new.tree c.refit-2.new.self c.clear.new.self c.in_ok-fit_boxes.ensures.boxes
-    c.deref-2.ensures.value c.refit.ensures.shape.keys c.refit.ensures.value c.refit.ensures.fitted over
-    (same_keys index.list c.refit-2.new.self index.tree.keys were.before index.boxes.items were.leaves
-    (were.count ∙ were.tree.count) over c.refit-2.ensures.numbers)
+    c.deref-2.result.now c.refit_in_turn.new.tree c.refit.new.self c.clear.new.self c.in_ok-fit_boxes.ensures.boxes
+    c.deref-2.ensures.value c.refit_in_turn.ensures.shape.keys c.refit_in_turn.ensures.value c.refit_in_turn.ensures.fitted over
+    (same_keys index.list c.refit.new.self index.tree.keys were.before index.boxes.items were.leaves
+    (were.count ∙ were.tree.count) over c.refit.ensures.numbers)
     c.clear.ensures.vertices

@@ -3,7 +3,7 @@ use Rattle.std.proofs.lemmas.Bool.Decides.{nat_tests}
 use Rattle.refit.proofs.SameShapes.{same_shape}
 use Rattle.refit.proofs.StaleTrees.{whole_stale, as_many}
 use Rattle.refit.proofs.WholeTrees.{whole_fitted, whole_value, none_value}
-use Rattle.refit.proofs.refitting.refit.Goals as goal
+use Rattle.refit.proofs.refitting.refit_in_turn.Goals as goal
 
 pub returns-then-not-is_empty-clause-shape : goal.returns-then-not-is_empty-clause-shape
 returns-then-not-is_empty-clause-shape c = same_shape c.args.tree.now c.fit_under-round_all.new.tree c.nodes.ensures.table
