@@ -10,8 +10,8 @@ use Rattle.world_engine.proofs.Indexes.{tree_fitted}
 use Rattle.world_engine.proofs.Standing.{over_as_many, fitted_but}
 use Rattle.world_engine.proofs.index.Index.mend.Goals as goal
 
-pub refit-requires-2-clause-world : goal.refit-requires-2-clause-world
-refit-requires-2-clause-world c =
+pub refit-requires-clause-world : goal.refit-requires-2-clause-world
+refit-requires-clause-world c =
     let points = c.args.points.now in
     let faces = c.args.faces.now in
     subst (All BoxInWorld) (sym (c.deref-4.ensures.value ∙ c.in_ok-fit_boxes.ensures.boxes))
