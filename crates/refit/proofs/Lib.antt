@@ -1,4 +1,5 @@
 pub mod Listed
+pub mod LivePositions
 pub mod SameShapes
 pub mod Subtrees
 pub mod Parting

@@ -2,7 +2,7 @@
 use Rattle.std.proofs.Common.{◌≡◌, ℕ, ◌+◌, ◌-◌, ◌<◌, sym, arith, inl, inr, subst, List, [], ◌∷◌, ◌++◌, length, Bool, true, false, ◌↔◌}
 use Rattle.std.specs.Prelude.{Contains, IsTrue}
 use Rattle.std.proofs.lemmas.Bool.{cases_lt}
-use Rattle.std.proofs.lemmas.List.Sorted.{IsNonDecreasingBy-push}
+use Rattle.std.proofs.lemmas.List.Quantifiers.{all_pairs_push}
 use Rattle.std.proofs.lemmas.List.Elements.{All-nil, All-push, All-weaker, All-get_or, Contains-append_left, Contains-push}
 use Rattle.refit.specs.Listing.{ListsBut}
 
@@ -16,7 +16,7 @@ module _ (P : ℕ → Type 0) where
   -- none yet
   pub lists_none : (list : List ℕ) → list ≡ [] → ListsBut P 0 list
   lists_none list e = subst (ListsBut P 0) (sym e) (record {
-    rising = λ i j d le lt. absurd (omega arith);
+    rising = λ i j d before lt. absurd (omega arith);
     below = All-nil (λ p. p < 0);
     alone = All-nil (λ p. P p → ⊥);
     each = λ p lt. absurd (omega arith);
@@ -26,8 +26,8 @@ module _ (P : ℕ → Type 0) where
     -- one of which it does not hold
     pub lists_one : (P upto → ⊥) → ListsBut P (upto + 1) (list ++ upto ∷ [])
     lists_one fails = record {
-      rising = IsNonDecreasingBy-push (λ x. x) list upto so_far.rising
-          (λ d some. omega (arith, All-get_or (λ p. p < upto) list (length list - 1) d (omega arith) so_far.below));
+      rising = all_pairs_push (λ p q. p < q) list upto so_far.rising
+          (λ k d lt. All-get_or (λ p. p < upto) list k d lt so_far.below);
       below = All-push (λ p. p < upto + 1) list upto
           (All-weaker (λ p. p < upto) (λ p. p < upto + 1) (λ p lt. omega arith) list so_far.below) (omega arith);
       alone = All-push (λ p. P p → ⊥) list upto so_far.alone fails;

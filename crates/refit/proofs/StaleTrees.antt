@@ -10,7 +10,9 @@ use Rattle.radix_tree.specs.declared.nodes.Child.TheVariants.{Inner}
 use Rattle.radix_tree.specs.Table.{Contents, node_at, no_box, IsTable}
 use Rattle.radix_tree.specs.Fit.{boxes_in, box_of_triangle}
 use Rattle.radix_tree.proofs.DescentLaws.{last_at, row_range}
-use Rattle.refit.specs.Stale.{IsFittedBut, AreOutside, AreFittedBut}
+use Rattle.arrival_core.specs.Tasks.{FitsButFor}
+use Rattle.refit.specs.Stale.{AreOutside, AreFittedBut}
+use Rattle.refit.proofs.LivePositions.{outside_still}
 
 -- the key that stands where no key is
 abbrev no_key : Key
@@ -36,17 +38,11 @@ same_in boxes before keys a b within same =
     ∙ (ap new (sym at) ∙ sym (get_or-map new ks i no_key no_box here)))))
 
 module _ (t : Contents) (boxes : List Box3) (moved : List ℕ) (table : IsTable t)
-    (but : IsFittedBut moved t boxes) where
+    (but : FitsButFor t boxes moved) where
   -- outside the moved positions a triangle has the box that it had
   still : (a b p : ℕ) → AreOutside moved a b → a ≤ p → p ≤ b → p < length t.keys →
       box_of_triangle but.before (tri_at t.keys p) ≡ box_of_triangle boxes (tri_at t.keys p)
-  still a b p outside low high lt = elim (but.same p lt) [
-    | inr same ↦ sym same
-    | inl listed ↦ elim (All-contains (λ p. (p < a) ⊎ (b < p)) moved p outside listed) [
-      | inl e ↦ absurd (omega (arith, e, low))
-      | inr e ↦ absurd (omega (arith, e, high))
-    ]
-  ]
+  still a b p outside low high lt = but.same p lt (outside_still moved a b p outside low high)
 
   -- so all rows are right but for those with a moved position in their range
   pub whole_stale : AreFittedBut moved t.keys boxes t.nodes (Inner 0)
@@ -62,7 +58,3 @@ module _ (t : Contents) (boxes : List Box3) (moved : List ℕ) (table : IsTable 
           fit = subst (λ bs. IsLeastBox bs x.fit) same (but.fitted.each k lt);
         };
   }
-
-  -- there is a box for each key
-  pub as_many : length boxes ≡ length t.keys
-  as_many = but.count ∙ but.fitted.count

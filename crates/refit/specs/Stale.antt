@@ -1,4 +1,4 @@
--- A tree that is fitted to its boxes but for the triangles that moved.
+-- What of a tree stands where triangles moved.
 use Rattle.std.specs.Prelude.{ℕ, ◌≡◌, ◌<◌, ◌≤◌, ◌⊎◌, ◌++◌, List, Contains, All, length}
 use Rattle.std.specs.List.Sorted.{IsNonDecreasing}
 use Rattle.fixed_box.specs.declared.shapes.Box3.{Box3}
@@ -14,15 +14,7 @@ use Rattle.refit.specs.Subtrees.{IsUnder}
 
 -- the triangle at a position has the box that it had
 abbrev pub IsStill : List Key → List Box3 → List Box3 → ℕ → Type 0
-IsStill keys before boxes p = box_of_triangle boxes (tri_at keys p) ≡ box_of_triangle before (tri_at keys p)
-
--- the tree is fitted to as many boxes, those before the moves; the triangle at each position that is not listed has now
--- the box that it had
-pub record IsFittedBut (moved : List ℕ) (t : Contents) (boxes : List Box3) : Type 0 where
-  pub before : List Box3
-  pub fitted : IsFitted t before
-  pub count : length boxes ≡ length before
-  pub same : (p : ℕ) → p < length t.keys → Contains moved p ⊎ IsStill t.keys before boxes p
+IsStill keys before boxes p = box_of_triangle before (tri_at keys p) ≡ box_of_triangle boxes (tri_at keys p)
 
 -- none of the positions is from a to b
 abbrev pub AreOutside : List ℕ → ℕ → ℕ → Type 0

@@ -1,11 +1,11 @@
 //! Which triangles have other boxes than before.
 
-ghost use Rattle.std.specs.Prelude.{◌≡◌, ◌↔◌, length, All, IsTrue, IfOk, OnOk};
-ghost use Rattle.std.specs.List.Sorted.{IsNonDecreasing};
+ghost use Rattle.std.specs.Prelude.{◌≡◌, ◌↔◌, ◌<◌, length, All, AllPairs, IsTrue, IfOk};
 ghost use Rattle.morton_key.specs.Keys.{tri_at};
 ghost use Rattle.radix_tree.specs.Fit.{IsFitted, box_of_triangle};
 ghost use Rattle.radix_tree.specs.Filling.{IsChild};
-ghost use Rattle.refit.specs.Stale.{IsFittedBut, IsStill};
+ghost use Rattle.arrival_core.specs.Tasks.{FitsButFor};
+ghost use Rattle.refit.specs.Stale.{IsStill};
 
 use crate::refitting::box_at;
 use fixed_box::{Box3, contains};
@@ -37,8 +37,8 @@ pub fn moved(
 ) -> Result<Vec<u32>, Memory>
     requires fitted { IsFitted tree.now before.now }
     requires count { length boxes.now ≡ length before.now }
-    ensures rising { IfOk result (λ moved. IsNonDecreasing moved.items) }
-    ensures stale { IfOk result (λ moved. IsFittedBut moved.items tree.now boxes.now) }
+    ensures rising { IfOk result (λ moved. AllPairs (λ p q. p < q) moved.items) }
+    ensures rest { IfOk result (λ moved. FitsButFor tree.now boxes.now moved.items) }
     ensures alone { IfOk result (λ moved.
         All (λ p. IsStill tree.now.keys before.now boxes.now p → ⊥) moved.items) }
 {

@@ -1,7 +1,7 @@
 //! The nodes above the leaves that moved, from these leaves up, which go down by the splits that stand in the tree.
 //! Each call answers the box round its child's triangles, so a node's box is the union of two that are there already.
 
-ghost use Rattle.std.specs.Prelude.{◌≡◌, ℕ, length};
+ghost use Rattle.std.specs.Prelude.{◌≡◌, ◌<◌, ℕ, AllPairs, length};
 ghost use Rattle.std.specs.List.Sorted.{IsNonDecreasing};
 ghost use Rattle.fixed_box.specs.Boxes.{IsLeastBox};
 ghost use Rattle.morton_key.specs.Keys.{tri_at};
@@ -9,8 +9,9 @@ ghost use Rattle.radix_tree.specs.Ranges.{HasRange};
 ghost use Rattle.radix_tree.specs.Table.{IsTable, node_at};
 ghost use Rattle.radix_tree.specs.Fit.{box_of_triangle, boxes_in, IsFitted, table_of};
 ghost use Rattle.radix_tree.specs.Filling.{IsChild, HasRow};
+ghost use Rattle.arrival_core.specs.Tasks.{FitsButFor};
 ghost use Rattle.refit.specs.Shapes.{KeepsShape};
-ghost use Rattle.refit.specs.Stale.{IsFittedBut, AreFittedBut, AreParted};
+ghost use Rattle.refit.specs.Stale.{AreFittedBut, AreParted};
 ghost use Rattle.refit.specs.Subtrees.{IsUnder};
 
 use fixed_box::{Box3, union};
@@ -83,8 +84,9 @@ fn fit_under(tree: &mut Tree, boxes: &[Box3], moved: &[u32], child: Child) -> Bo
 /// grows with these nodes, and for each with the logarithm of the moved leaves below it. The recursion is at most one
 /// call deeper than the tree is high. It takes no memory.
 pub fn refit_in_turn(tree: &mut Tree, boxes: &[Box3], moved: &[u32])
-    requires rising { IsNonDecreasing moved.now }
-    requires stale { IsFittedBut moved.now tree.old boxes.now }
+    requires count { length boxes.now ≡ length tree.old.keys }
+    requires rising { AllPairs (λ p q. p < q) moved.now }
+    requires rest { FitsButFor tree.old boxes.now moved.now }
     ensures shape { KeepsShape tree.old tree.new }
     ensures fitted { IsFitted tree.new boxes.now }
     ensures value { tree.new.nodes ≡ table_of tree.old.keys boxes.now }

@@ -1,6 +1,6 @@
 //! A walk list: its records and its leaves, which agree as long as it stands.
 
-ghost use Rattle.std.specs.Prelude.{◌≡◌, ◌<◌, ℕ, All, IfOk, length};
+ghost use Rattle.std.specs.Prelude.{◌≡◌, ◌<◌, ℕ, All, AllPairs, IfOk, length};
 ghost use Rattle.std.specs.List.Sorted.{IsNonDecreasing};
 ghost use Rattle.fixed_box.specs.World.{BoxInWorld};
 ghost use Rattle.walk_list.specs.Covering.{CoversAll};
@@ -62,12 +62,13 @@ impl WalkList {
         self.leaves.as_slice()
     }
 
-    /// The positions of the triangles that moved, rising: those whose box in the list is not that of `boxes`, where
-    /// `boxes[n - 1]` is the box of triangle `n`. It is one pass over the leaves, and takes memory for the answer
+    /// The positions of the triangles that moved, rising, each once: those whose box in the list is not that of `boxes`,
+    /// where `boxes[n - 1]` is the box of triangle `n`. It is one pass over the leaves, and takes memory for the answer
     /// alone.
     pub fn moved(&self, alloc: Global, boxes: &[Box3]) -> Result<Vec<u32>, Memory>
         requires { IsOverAsMany self.now boxes.now }
         ensures rising { IfOk result (λ moved. IsNonDecreasing moved.items) }
+        ensures once { IfOk result (λ moved. AllPairs (λ p q. p < q) moved.items) }
         ensures within { IfOk result (λ moved. All (λ p. p < length self.now.leaves) moved.items) }
         ensures all { IfOk result (λ moved. AreOverBut self.now.leaves boxes.now moved.items) }
         ensures alone { IfOk result (λ moved.

@@ -13,11 +13,13 @@ use Rattle.walk_list.specs.Lists.{IsOver}
 use Rattle.walk_list.specs.Leaves.{leaves_of}
 use Rattle.world_engine.specs.declared.index.Index.{Index}
 use Rattle.world_engine.specs.declared.fans.Fans.{Fans}
+use Rattle.world_engine.specs.declared.ways.BuiltWays.{BuiltWays}
 use Rattle.world_engine.specs.declared.last_work.LastWork.{LastWork}
 use Rattle.world_engine.specs.declared.last_work.LastWork.TheVariants.{Counted, Uncounted}
 use Rattle.world_engine.specs.Worlds.{boxes_at}
 use Rattle.world_engine.specs.Marks.{Marked}
 use Rattle.world_engine.specs.Fans.{AreFans}
+use Rattle.world_engine.specs.WaysUp.{IsWayUp}
 use Rattle.world_engine.specs.Kept.{IsIndex, IsFittedTo, IsCountable, WereFitted}
 use Rattle.world_engine.proofs.MendedBoxes.{length-boxes_at, right_in_list}
 
@@ -40,8 +42,9 @@ now_fitted index now faces fitted = record {
 pub fitted_index : (index : Index) (now : List Point) (faces : List Face) →
     index.tree.keys ≡ order_of (boxes_at index.built.value.items faces) → length index.tree.keys ≡ length faces →
     index.marks.vertices ≡ length now → IsFittedTo index now faces →
-    IfSome index.fans (λ fans. AreFans fans faces (length now)) → IsIndex index now faces
-fitted_index index now faces keys triangles vertices fitted fans = record {
+    IfSome index.fans (λ fans. AreFans fans faces (length now)) →
+    IfSome index.ways (λ ways. IsWayUp ways index.tree.keys) → IsIndex index now faces
+fitted_index index now faces keys triangles vertices fitted fans ways = record {
   boxes = ap length fitted.each ∙ length-boxes_at now faces;
   triangles = triangles;
   keys = keys;
@@ -49,6 +52,7 @@ fitted_index index now faces keys triangles vertices fitted fans = record {
   right = λ t lt still. right_in_list now faces index.boxes.items t lt fitted.each;
   fitted = λ still. fitted;
   were = now_fitted index now faces fitted;
+  ways = ways;
   fans = fans;
   work = countable index.work index.tree index.boxes.items fitted.fits;
 }
@@ -79,19 +83,21 @@ module _ (index : Index) (now : List Point) (faces : List Face) (old : IsIndex i
       list = old.were.list;
       leaves = old.were.leaves;
     };
+    ways = old.ways;
     fans = chained;
     work = tt;
   }
 
   -- and with tree and list fitted to them
-  pub tree_fitted : (boxes : List Box3) (tree : Contents) (list : lists.Contents) (marks : Marked) →
+  pub tree_fitted : (boxes : List Box3) (tree : Contents) (list : lists.Contents) (ways : Option BuiltWays)
+      (marks : Marked) →
       index.boxes.items ≡ boxes_at now faces → boxes ≡ index.boxes.items → tree.keys ≡ index.tree.keys →
       tree.nodes ≡ table_of index.tree.keys boxes → IsFitted tree boxes → IsOver list index.boxes.items →
       list.leaves ≡ leaves_of index.tree.keys index.boxes.items →
-      marks.vertices ≡ index.marks.vertices →
-      IsIndex (record index { tree = tree; list = list; marks = marks }) now faces
-  tree_fitted boxes tree list marks made same keys nodes fits over leaves vertices =
-      fitted_index (record index { tree = tree; list = list; marks = marks }) now faces (keys ∙ old.keys)
+      IfSome ways (λ w. IsWayUp w index.tree.keys) → marks.vertices ≡ index.marks.vertices →
+      IsIndex (record index { tree = tree; list = list; ways = ways; marks = marks }) now faces
+  tree_fitted boxes tree list ways marks made same keys nodes fits over leaves up vertices =
+      fitted_index (record index { tree = tree; list = list; ways = ways; marks = marks }) now faces (keys ∙ old.keys)
       (ap length keys ∙ old.triangles) (vertices ∙ old.vertices) (record {
         each = made;
         nodes = nodes ∙ (ap (λ ks. table_of ks boxes) old.keys
@@ -99,4 +105,33 @@ module _ (index : Index) (now : List Point) (faces : List Face) (old : IsIndex i
         fits = subst (IsFitted tree) same fits;
         list = over;
         leaves = leaves ∙ ap (λ ks. leaves_of ks index.boxes.items) (sym keys);
-      }) old.fans
+      }) old.fans (subst (λ ks. IfSome ways (λ w. IsWayUp w ks)) (sym keys) up)
+
+  -- with the way up found, or lost, where the tree is as it was
+  pub ways_found : (tree : Contents) (ways : Option BuiltWays) → tree ≡ index.tree →
+      IfSome ways (λ w. IsWayUp w index.tree.keys) → IsIndex (record index { tree = tree; ways = ways }) now faces
+  ways_found tree ways same up =
+      subst (λ t. IsIndex (record index { tree = t; ways = ways }) now faces) (sym same) (record {
+        boxes = old.boxes;
+        triangles = old.triangles;
+        keys = old.keys;
+        vertices = old.vertices;
+        right = old.right;
+        fitted = λ still. record {
+          each = (old.fitted still).each;
+          nodes = (old.fitted still).nodes;
+          fits = (old.fitted still).fits;
+          list = (old.fitted still).list;
+          leaves = (old.fitted still).leaves;
+        };
+        were = record {
+          before = old.were.before;
+          count = old.were.count;
+          tree = old.were.tree;
+          list = old.were.list;
+          leaves = old.were.leaves;
+        };
+        ways = up;
+        fans = old.fans;
+        work = old.work;
+      })

@@ -1,11 +1,13 @@
 -- The tree and the list of an index, which are fitted to the boxes of before, while triangles moved.
 use Rattle.std.proofs.Common.{◌≡◌, ◌∙◌, ℕ, ◌<◌, ap, sym, arith, inl, inr, List, length, get_or}
-use Rattle.std.proofs.lemmas.List.{get_or-map, length-map}
+use Rattle.std.proofs.lemmas.Bool.{false≢true}
+use Rattle.std.proofs.lemmas.List.{get_or-map}
 use Rattle.fixed_box.specs.declared.shapes.Box3.{Box3}
 use Rattle.morton_key.specs.Keys.{key_at, tri_at}
 use Rattle.radix_tree.specs.Table.{no_box}
 use Rattle.radix_tree.specs.Fit.{box_of_triangle}
-use Rattle.refit.specs.Stale.{IsFittedBut, IsStill}
+use Rattle.arrival_core.specs.Tasks.{FitsButFor}
+use Rattle.refit.proofs.LivePositions.{listed_live}
 use Rattle.walk_list.specs.declared.records.Leaf.{Leaf}
 use Rattle.walk_list.specs.Leaves.{leaf_of, leaves_of, leaf_at, no_leaf}
 use Rattle.walk_list.specs.Moving.{AreOverBut, IsOverAsMany}
@@ -33,15 +35,14 @@ module _ (index : Index) (were : WereFitted index) where
     number_is p lt = sym (but.numbers p (within p lt)) ∙ ap (λ (l : Leaf). l.number) (leaf_is p lt)
 
     -- so the tree is fitted but for the triangles that are listed as moved
-    pub fitted_but : IsFittedBut moved index.tree index.boxes.items
+    pub fitted_but : FitsButFor index.tree index.boxes.items moved
     unfolding leaf_of tri_at
     fitted_but = record {
       before = were.before;
       fitted = were.tree;
-      count = were.count;
-      same = λ p lt. elim (but.fits p (within p lt)) [
-        | inl listed ↦ inl listed
-        | inr fit ↦ inr (ap (box_of_triangle index.boxes.items) (sym (number_is p lt))
-            ∙ (sym fit ∙ ap (λ (l : Leaf). l.fit) (leaf_is p lt)))
+      same = λ p lt still. elim (but.fits p (within p lt)) [
+        | inl listed ↦ absurd (false≢true (sym still ∙ listed_live moved p listed))
+        | inr fit ↦ sym (ap (λ (l : Leaf). l.fit) (leaf_is p lt))
+            ∙ (fit ∙ ap (box_of_triangle index.boxes.items) (number_is p lt))
       ];
     }

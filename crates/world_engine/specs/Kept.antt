@@ -20,6 +20,7 @@ use Rattle.world_engine.specs.declared.index.Index.{Index}
 use Rattle.world_engine.specs.declared.last_work.LastWork.{LastWork}
 use Rattle.world_engine.specs.declared.last_work.LastWork.TheVariants.{Counted, Uncounted}
 use Rattle.world_engine.specs.Worlds.{tri_of, boxes_at}
+use Rattle.world_engine.specs.WaysUp.{IsWayUp}
 use Rattle.world_engine.specs.Fans.{HasVertex, face_at, AreFans}
 
 -- the box of the triangle at a position
@@ -77,6 +78,7 @@ pub record IsIndex (index : Index) (now : List Point) (faces : List Face) : Type
       IsRight now faces index.boxes.items t
   pub fitted : index.marks.moved ≡ [] → IsFittedTo index now faces
   pub were : WereFitted index
+  pub ways : IfSome index.ways (λ ways. IsWayUp ways index.tree.keys)
   pub fans : IfSome index.fans (λ fans. AreFans fans faces (length now))
   pub work : IsCountable index.work index.tree index.boxes.items
 

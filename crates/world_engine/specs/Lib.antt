@@ -5,6 +5,7 @@ pub mod Refusals
 pub mod Outputs
 pub mod Fans
 pub mod Marks
+pub mod WaysUp
 pub mod Kept
 pub mod Grouping
 pub mod Runs

@@ -9,19 +9,19 @@ ghost use Rattle.world_engine.specs.Worlds.{boxes_at};
 ghost use Rattle.world_engine.specs.Kept.{IsIndex, IsCountable, last_work};
 ghost use Rattle.world_engine.specs.declared.last_work.LastWork.{LastWork};
 
-use crate::builds::tree_of;
+use crate::builds::{fit_tree, tree_of};
 use crate::corners::boxes_of;
 use crate::fans::Fans;
 use crate::last_work::LastWork;
 use crate::marks::Marks;
 use crate::mending::fit_moved;
+use crate::ways::BuiltWays;
 use command_line::{Build, MOST_WORKERS};
 use fixed_box::{Box3, Point};
 use karras_build::order_by_threads;
 use obj_text::{Face, MOST_FACES};
 use outside::{Gate, Memory};
 use radix_tree::Tree;
-use refit::refit_in_turn;
 use std::alloc::Global;
 use std::snapshot::Snapshot;
 use std::thread::Threads;
@@ -43,6 +43,8 @@ pub struct Index {
     pub marks: Marks,
     /// The triangles that use each vertex, once they were needed.
     pub fans: Option<Fans>,
+    /// The way up in the tree, once it was needed.
+    pub ways: Option<BuiltWays>,
 }
 
 impl Index {
@@ -80,6 +82,7 @@ impl Index {
             built: Snapshot::of(points),
             marks,
             fans: None,
+            ways: None,
         })
     }
 
@@ -118,11 +121,23 @@ impl Index {
         Ok(())
     }
 
-    /// Fits boxes, tree and list to the points now, where vertices were moved. After `Memory` the next call does.
-    pub fn mend(&mut self, alloc: Global, points: &[Point], faces: &[Face]) -> Result<(), Memory>
+    /// Fits boxes, tree and list to the points now, where vertices were moved: the tree by so many workers, who pass the
+    /// gate. After `Memory` the next call does.
+    pub fn mend<R: Threads + Sync, G: Gate>(
+        &mut self,
+        rt: &R,
+        alloc: Global,
+        points: &[Point],
+        faces: &[Face],
+        build: Build,
+        workers: u32,
+        gate: &G,
+    ) -> Result<(), Memory>
         requires world { All InWorld points.now }
         requires named { All (IsFaceOf (length points.now)) faces.now }
         requires few { length faces.now ≤ MOST_FACES }
+        requires some_workers { 1 ≤ workers }
+        requires few_workers { workers ≤ MOST_WORKERS }
         requires index { IsIndex self.old points.now faces.now }
         ensures index { IsIndex self.new points.now faces.now }
         ensures mended { OnOk result (self.new.marks.moved ≡ []) }
@@ -135,7 +150,17 @@ impl Index {
         }
         self.fit_boxes(alloc, points, faces)?;
         let moved = self.list.moved(alloc, &self.boxes)?;
-        refit_in_turn(&mut self.tree, &self.boxes, &moved);
+        fit_tree(
+            rt,
+            alloc,
+            build,
+            &mut self.tree,
+            &self.boxes,
+            &moved,
+            &mut self.ways,
+            workers,
+            gate,
+        )?;
         self.list.refit(&self.boxes, &moved);
         self.marks.clear();
         Ok(())
@@ -170,6 +195,7 @@ impl Index {
         let tree = tree_of(rt, alloc, build, keys, &self.boxes, workers, gate)?;
         self.list = flatten(alloc, &tree, &self.boxes)?;
         self.tree = tree;
+        self.ways = None;
         self.marks.clear();
         self.built = Snapshot::of(points);
         Ok(())

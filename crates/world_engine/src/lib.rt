@@ -21,6 +21,7 @@ mod runs;
 mod stages;
 mod status;
 mod sums;
+mod ways;
 mod workload;
 mod world;
 

@@ -60,7 +60,7 @@ impl World {
 
     /// The world that the mesh opens, its last work 0.
     ///
-    /// `workers` is 1 to 64. Here and at each `Rebuild` so many workers carry the boxes up the tree, each in a thread of
+    /// `workers` is 1 to 64. Here, at each `Rebuild` and where moved leaves are fitted so many workers carry the boxes up the tree, each in a thread of
     /// its own where there is one: a worker goes through all batches of 64 leaves, passes the gate before each, and
     /// carries up the leaves of those that no other worker took. Where there are fewer than two triangles nobody works.
     /// What else a build does is shared by as many threads as it is worth, whatever `workers` says. The world is the same
@@ -113,12 +113,12 @@ impl World {
     {
         match ask {
             Ask::Nothing => Ok(Reply::Nothing),
-            Ask::Overlap { around } => self.overlap(alloc, around),
-            Ask::Seg { p, q } => self.segment(alloc, *p, *q),
+            Ask::Overlap { around } => self.overlap(rt, alloc, gate, around),
+            Ask::Seg { p, q } => self.segment(rt, alloc, gate, *p, *q),
             Ask::Move { vertex, to } => Ok(self.displace(*vertex, *to)),
-            Ask::Refit => self.refit(alloc),
+            Ask::Refit => self.refit(rt, alloc, gate),
             Ask::Rebuild => self.rebuild(rt, alloc, gate),
-            Ask::NodeOf { number } => self.node(alloc, *number),
+            Ask::NodeOf { number } => self.node(rt, alloc, gate, *number),
             Ask::Cells { level } => self.cells(alloc, *level),
             Ask::Groups => self.groups(alloc),
             Ask::Stat => Ok(self.stat()),
@@ -126,25 +126,54 @@ impl World {
         }
     }
 
-    fn overlap(&mut self, alloc: Global, around: &Box3) -> Result<Reply, Memory>
+    fn overlap<R: Threads + Sync, G: Gate>(
+        &mut self,
+        rt: &R,
+        alloc: Global,
+        gate: &G,
+        around: &Box3,
+    ) -> Result<Reply, Memory>
         ensures reply { IfOk result (λ reply. reply ≡ reply_to self.old (Ask.Overlap around.now)) }
         ensures state { OnOk result (self.new ≡ state_after self.old (Ask.Overlap around.now)) }
         ensures memory { OnErr result (self.new ≡ self.old) }
     {
-        self.index.mend(alloc, &self.points, self.mesh.faces())?;
+        self.index.mend(
+            rt,
+            alloc,
+            &self.points,
+            self.mesh.faces(),
+            self.build,
+            self.workers,
+            gate,
+        )?;
         let numbers = overlaps(alloc, &self.index.list, around)?;
         self.index.work = LastWork::Uncounted(*around);
         Ok(Reply::Overlaps(numbers))
     }
 
-    fn segment(&mut self, alloc: Global, p: Point, q: Point) -> Result<Reply, Memory>
+    fn segment<R: Threads + Sync, G: Gate>(
+        &mut self,
+        rt: &R,
+        alloc: Global,
+        gate: &G,
+        p: Point,
+        q: Point,
+    ) -> Result<Reply, Memory>
         requires p { InWorld p }
         requires q { InWorld q }
         ensures reply { IfOk result (λ reply. reply ≡ reply_to self.old (Ask.Seg p q)) }
         ensures state { self.new ≡ self.old }
         ensures free { self.old.settled ≡ true → IsOk result }
     {
-        self.index.mend(alloc, &self.points, self.mesh.faces())?;
+        self.index.mend(
+            rt,
+            alloc,
+            &self.points,
+            self.mesh.faces(),
+            self.build,
+            self.workers,
+            gate,
+        )?;
         let corners = Corners {
             points: &self.points,
             faces: self.mesh.faces(),
@@ -175,12 +204,25 @@ impl World {
         }
     }
 
-    fn refit(&mut self, alloc: Global) -> Result<Reply, Memory>
+    fn refit<R: Threads + Sync, G: Gate>(
+        &mut self,
+        rt: &R,
+        alloc: Global,
+        gate: &G,
+    ) -> Result<Reply, Memory>
         ensures reply { IfOk result (λ reply. reply ≡ reply_to self.old Ask.Refit) }
         ensures state { OnOk result (self.new ≡ state_after self.old Ask.Refit) }
         ensures memory { OnErr result (self.new ≡ self.old) }
     {
-        self.index.mend(alloc, &self.points, self.mesh.faces())?;
+        self.index.mend(
+            rt,
+            alloc,
+            &self.points,
+            self.mesh.faces(),
+            self.build,
+            self.workers,
+            gate,
+        )?;
         self.settled = true;
         Ok(Reply::Refitted)
     }
@@ -240,7 +282,13 @@ impl World {
         Ok(Reply::GroupsAre(group_list(alloc, &self.mesh)?))
     }
 
-    fn node(&mut self, alloc: Global, number: u64) -> Result<Reply, Memory>
+    fn node<R: Threads + Sync, G: Gate>(
+        &mut self,
+        rt: &R,
+        alloc: Global,
+        gate: &G,
+        number: u64,
+    ) -> Result<Reply, Memory>
         ensures reply { IfOk result (λ reply. reply ≡ reply_to self.old (Ask.NodeOf number)) }
         ensures state { self.new ≡ self.old }
         ensures free { is_free self.old (Ask.NodeOf number) ≡ true → IsOk result }
@@ -249,7 +297,15 @@ impl World {
         if self.index.tree.nodes().len() as u64 <= number {
             return Ok(Reply::Refused(LineFault::NoSuchNode));
         }
-        self.index.mend(alloc, &self.points, self.mesh.faces())?;
+        self.index.mend(
+            rt,
+            alloc,
+            &self.points,
+            self.mesh.faces(),
+            self.build,
+            self.workers,
+            gate,
+        )?;
         Ok(node_reply(self.index.tree.nodes(), number))
     }
 }

@@ -7,9 +7,9 @@ pub returns-then-contains : goal.returns-then-contains
 returns-then-contains c =
     let old = c.box_at-old.result in
     let new = c.box_at-new.result in (
-      λ t. sym c.box_at-new.ensures.value
-          ∙ (contains_antisym new old (c.contains.ensures.0 c.if-contains.true) (c.contains-then-contains.ensures.0 t)
-          ∙ c.box_at-old.ensures.value),
+      λ t. sym c.box_at-old.ensures.value
+          ∙ (contains_antisym old new (c.contains-then-contains.ensures.0 t) (c.contains.ensures.0 c.if-contains.true)
+          ∙ c.box_at-new.ensures.value),
       λ e. c.contains-then-contains.ensures.1 (subst (Contains old)
-          (c.box_at-old.ensures.value ∙ (sym e ∙ sym c.box_at-new.ensures.value)) (λ point h. h)),
+          (c.box_at-old.ensures.value ∙ (e ∙ sym c.box_at-new.ensures.value)) (λ point h. h)),
     )

@@ -1,6 +1,8 @@
-use Rattle.std.proofs.Common.{◌∙◌, ℕ, ◌+◌, arith, sym, ap, subst, length}
+use Rattle.std.proofs.Common.{◌∙◌, ℕ, ◌+◌, arith, inl, inr, sym, ap, subst, length}
+use Rattle.std.proofs.lemmas.Bool.{false≢true}
 use Rattle.refit.specs.Listing.{ListsBut}
 use Rattle.refit.specs.Stale.{IsStill}
+use Rattle.refit.proofs.LivePositions.{listed_live}
 use Rattle.refit.proofs.Listed.{told_false, lists_one, lists_same}
 use Rattle.refit.proofs.moving.moved.Goals as goal
 use Rattle.refit.proofs.moving.moved.Goals.{then-not-is_still+in-Ok, else-not-is_still}
@@ -20,10 +22,13 @@ loop-position-preserved c =
           (c.is_still.ensures.0 w.if-not-is_still.false))
     ]
 
-pub returns-clause-stale : goal.returns-clause-stale
-returns-clause-stale c = record {
+pub returns-clause-rest : goal.returns-clause-rest
+returns-clause-rest c = record {
   before = c.args.before.now;
   fitted = c.requires.fitted;
-  count = c.requires.count;
-  same = λ p lt. c.loop-position.invariant.each p (omega (arith, lt, c.loop-position-test.false, ap length c.keys.ensures.keys));
+  same = λ p lt still. elim (c.loop-position.invariant.each p
+      (omega (arith, lt, c.loop-position-test.false, ap length c.keys.ensures.keys))) [
+    | inl listed ↦ absurd (false≢true (sym still ∙ listed_live c.loop-position.moved.items p listed))
+    | inr same ↦ same
+  ];
 }
