@@ -1,6 +1,6 @@
 -- Where cells begin: at a key, at each level that it shares with the next key and not with the one before it.
-use Rattle.std.proofs.Common.{◌≡◌, ℕ, suc, zero, ◌+◌, ◌-◌, ◌<◌, ◌≤◌, ◌≢◌, min, refl, sym, ap, ◌∙◌, arith, inl, inr, List, [], ◌∷◌, ◌++◌, length, take, Bool, true, false, cond}
-use Rattle.std.specs.Prelude.{◌==◌, nat_lt, count_by}
+use Rattle.std.proofs.Common.{◌≡◌, ℕ, suc, zero, ◌+◌, ◌-◌, ◌<◌, ◌≤◌, ◌≢◌, min, refl, sym, ap, ◌∙◌, arith, inl, inr, List, [], ◌∷◌, ◌++◌, length, take, true, false, cond}
+use Rattle.std.specs.Prelude.{◌==◌, nat_lt}
 use Rattle.std.proofs.lemmas.Bool.{cases_eq, cases_lt, eq-eqb, ne_eqb, lt-ltb, le-ltb, and_right, cond-true, cond-false}
 use Rattle.std.proofs.lemmas.List.{length-append}
 use Rattle.std.proofs.lemmas.List.Sums.{count_by_more_yes}
@@ -9,7 +9,7 @@ use Rattle.morton_key.specs.declared.keys.TheConstants.{LEVELS}
 use Rattle.morton_key.specs.Keys.{key_at, code_at, IsLawful}
 use Rattle.octree_cells.specs.Cells.{prefix_of, prefix_at}
 use Rattle.octree_cells.specs.CellsOf.{keys_with, is_cell_at, cell_at, cells_from, cells_of, cells_to, cell_count_of}
-use Rattle.octree_cells.specs.Edges.{shared_level, IsApart}
+use Rattle.octree_cells.specs.Levels.{shared_level}
 use Rattle.octree_cells.proofs.Prefixes.{prefix_from_shared, prefixes_differ, shared_most}
 use Rattle.octree_cells.proofs.Runs.{IsRun, cell_begins, none_begins}
 use Rattle.octree_cells.proofs.Parting.{cells_from-add, one_run}
@@ -49,22 +49,30 @@ module _ (keys : List Key) (ok : IsLawful keys) (level : ℕ) (deep : level ≤ 
       (last : ℕ) × (b ≤ last) × IsRun keys level a last
   run_from zero a b enough le h e before = absurd (omega arith)
   run_from (suc f) a b enough le h e before = elim (cases_lt (suc b) (length keys)) [
-    | inr end ↦ (b, omega arith, record {
-      order = le;
-      within = h;
-      shared = e;
-      apart = record { before = before; after = λ more. absurd (omega arith) };
-    })
+    | inr end ↦ (
+      b,
+      omega arith,
+      record {
+        order = le;
+        within = h;
+        shared = e;
+        apart = record { before = before; after = λ more. absurd (omega arith) };
+      },
+    )
     | inl more ↦ elim (cases_eq (prefix_at keys level b) (prefix_at keys level (suc b))) [
       | inl same ↦
           let whole = run_from f a (suc b) (omega arith) (omega arith) more (e ∙ same) before in
           (whole.0, omega (arith, whole.1), whole.2)
-      | inr ne ↦ (b, omega arith, record {
-        order = le;
-        within = h;
-        shared = e;
-        apart = record { before = before; after = λ _. ne };
-      })
+      | inr ne ↦ (
+        b,
+        omega arith,
+        record {
+          order = le;
+          within = h;
+          shared = e;
+          apart = record { before = before; after = λ _. ne };
+        },
+      )
     ]
   ]
 
