@@ -1,6 +1,7 @@
 #!/usr/bin/env python3
-"""Times what the word `stat` asks of a tree of 524,288 triangles, its count of cells and its height, beside the same in
-plain Rust: one pass over the node list, and a recursion (the tree of keys.rs). And a list of cells of each level.
+"""Times what the word `stat` asks of a tree of 524,288 triangles, its count of cells and its height, beside plain Rust
+(the tree of keys.rs) that counts by one pass over the node list and measures by a recursion; both together beside that
+pass alone; the count beside the same pass over the keys. And a list of cells of each level, by the same walk.
 
 Usage, at the top of the repository: python3 bench/cells.py [RUNS]
 Both programs run in turn; what is printed is the median of each, in milliseconds, and their ratio.
@@ -117,6 +118,16 @@ fn count(keys: &[Key], nodes: &[Node]) -> u64 {
     total
 }
 
+fn count_by_keys(keys: &[Key]) -> u64 {
+    let (mut total, mut before) = (0, 0);
+    for i in 1..keys.len() {
+        let levels = level(keys, i - 1, i) + 1;
+        total += u64::from(levels.saturating_sub(before));
+        before = levels;
+    }
+    total
+}
+
 fn height(nodes: &[Node], number: usize) -> u32 {
     let node = &nodes[number];
     let left = if node.first == node.split { 0 } else { height(nodes, node.split as usize) };
@@ -156,7 +167,11 @@ fn main() {
         sum += found.len();
     }
     let listed = start.elapsed().as_micros();
-    println!("{counted} {measured} {listed} {all}/{high}/{sum}");
+    let start = Instant::now();
+    let by_keys = count_by_keys(&keys);
+    let passed = start.elapsed().as_micros();
+    assert_eq!(by_keys, all);
+    println!("{counted} {measured} {listed} {all}/{high}/{sum} {passed}");
 }
 """
 
@@ -212,6 +227,12 @@ def build(top, folder):
     return f"{program}/out/cells_bench", rust
 
 
+def tell(name, ours, rust):
+    """Prints the medians of two lists of times, and their ratio."""
+    mine, theirs = statistics.median(ours) / 1000, statistics.median(rust) / 1000
+    print(f"{name}: {mine:.2f} ms, plain Rust {theirs:.2f} ms, ratio {mine / theirs:.2f}")
+
+
 def main():
     runs = int(sys.argv[1]) if len(sys.argv) > 1 else 9
     top = os.getcwd()
@@ -222,14 +243,16 @@ def main():
         for _ in range(runs):
             for program in (ours, rust):
                 words = subprocess.run([program], capture_output=True, text=True, check=True).stdout.split()
-                times[program].append([int(word) for word in words[:3]])
+                times[program].append([int(word) for word in words[:3] + words[4:]])
                 checks.add(words[3])
         if len(checks) != 1:
             sys.exit(f"the two programs differ: {checks}")
         for i, name in enumerate(NAMES):
-            mine = statistics.median(row[i] for row in times[ours]) / 1000
-            theirs = statistics.median(row[i] for row in times[rust]) / 1000
-            print(f"{name}: {mine:.2f} ms, plain Rust {theirs:.2f} ms, ratio {mine / theirs:.2f}")
+            tell(name, (row[i] for row in times[ours]), (row[i] for row in times[rust]))
+        counts = [row[0] for row in times[ours]]
+        both = [row[0] + row[1] for row in times[ours]]
+        tell("count and height, beside one pass", both, [row[0] for row in times[rust]])
+        tell("count of cells, beside a pass over keys", counts, [row[3] for row in times[rust]])
         print(f"cells/height/listed: {checks.pop()}")
 
 

@@ -1,6 +1,6 @@
 -- Where cells begin: at a key, at each level that it shares with the next key and not with the one before it.
-use Rattle.std.proofs.Common.{◌≡◌, ℕ, suc, zero, ◌+◌, ◌-◌, ◌<◌, ◌≤◌, ◌≢◌, min, refl, sym, ap, ◌∙◌, arith, inl, inr, List, [], ◌∷◌, ◌++◌, length, take, Bool, true, false, cond}
-use Rattle.std.specs.Prelude.{◌==◌, nat_lt, count_by}
+use Rattle.std.proofs.Common.{◌≡◌, ℕ, suc, zero, ◌+◌, ◌-◌, ◌<◌, ◌≤◌, ◌≢◌, min, refl, sym, ap, ◌∙◌, arith, inl, inr, List, [], ◌∷◌, ◌++◌, length, take, true, false, cond}
+use Rattle.std.specs.Prelude.{◌==◌, nat_lt}
 use Rattle.std.proofs.lemmas.Bool.{cases_eq, cases_lt, eq-eqb, ne_eqb, lt-ltb, le-ltb, and_right, cond-true, cond-false}
 use Rattle.std.proofs.lemmas.List.{length-append}
 use Rattle.std.proofs.lemmas.List.Sums.{count_by_more_yes}
@@ -9,7 +9,7 @@ use Rattle.morton_key.specs.declared.keys.TheConstants.{LEVELS}
 use Rattle.morton_key.specs.Keys.{key_at, code_at, IsLawful}
 use Rattle.octree_cells.specs.Cells.{prefix_of, prefix_at}
 use Rattle.octree_cells.specs.CellsOf.{keys_with, is_cell_at, cell_at, cells_from, cells_of, cells_to, cell_count_of}
-use Rattle.octree_cells.specs.Edges.{shared_level, IsApart}
+use Rattle.octree_cells.specs.Levels.{shared_level}
 use Rattle.octree_cells.proofs.Prefixes.{prefix_from_shared, prefixes_differ, shared_most}
 use Rattle.octree_cells.proofs.Runs.{IsRun, cell_begins, none_begins}
 use Rattle.octree_cells.proofs.Parting.{cells_from-add, one_run}
@@ -37,6 +37,7 @@ unfolding levels_at
 levels-past keys i h =
     cond-false (nat_lt (suc i) (length keys)) (suc (shared_level keys i (suc i))) 0 (le-ltb (suc i) (length keys) h)
 
+-- nor before the first
 pub levels-first : (keys : List Key) → levels_at keys 0 ≡ 0
 unfolding levels_at
 levels-first keys = refl
@@ -48,31 +49,24 @@ module _ (keys : List Key) (ok : IsLawful keys) (level : ℕ) (deep : level ≤ 
       (0 < a → prefix_at keys level (a - 1) ≢ prefix_at keys level a) →
       (last : ℕ) × (b ≤ last) × IsRun keys level a last
   run_from zero a b enough le h e before = absurd (omega arith)
-  run_from (suc f) a b enough le h e before = elim (cases_lt (suc b) (length keys)) [
-    | inr end ↦ (b, omega arith, record {
-      order = le;
-      within = h;
-      shared = e;
-      apart = record { before = before; after = λ more. absurd (omega arith) };
-    })
-    | inl more ↦ elim (cases_eq (prefix_at keys level b) (prefix_at keys level (suc b))) [
-      | inl same ↦
-          let whole = run_from f a (suc b) (omega arith) (omega arith) more (e ∙ same) before in
-          (whole.0, omega (arith, whole.1), whole.2)
-      | inr ne ↦ (b, omega arith, record {
-        order = le;
-        within = h;
-        shared = e;
-        apart = record { before = before; after = λ _. ne };
-      })
-    ]
-  ]
+  run_from (suc f) a b enough le h e before =
+      let ends : (suc b < length keys → prefix_at keys level b ≢ prefix_at keys level (suc b)) → IsRun keys level a b =
+      λ after. record { order = le; within = h; shared = e; apart = record { before = before; after = after } } in
+      elim (cases_lt (suc b) (length keys)) [
+        | inr end ↦ (b, omega arith, ends (λ more. absurd (omega arith)))
+        | inl more ↦ elim (cases_eq (prefix_at keys level b) (prefix_at keys level (suc b))) [
+          | inl same ↦
+              let whole = run_from f a (suc b) (omega arith) (omega arith) more (e ∙ same) before in
+              (whole.0, omega (arith, whole.1), whole.2)
+          | inr ne ↦ (b, omega arith, ends (λ _. ne))
+        ]
+      ]
 
   -- no cell begins at a key that has the prefix of the one before it
-  begun_before : (i : ℕ) → suc i < length keys → prefix_at keys level i ≡ prefix_at keys level (suc i) →
+  none_again : (i : ℕ) → suc i < length keys → prefix_at keys level i ≡ prefix_at keys level (suc i) →
       is_cell_at keys level (suc i) ≡ false
   unfolding is_cell_at keys_with prefix_at code_at key_at
-  begun_before i h same =
+  none_again i h same =
       let own : ℕ = prefix_at keys level (suc i) in
       let next : suc i ≡ i + 1 = omega arith in
       let earlier = ap (λ n. keys_with level own (take n keys)) next
@@ -83,7 +77,7 @@ module _ (keys : List Key) (ok : IsLawful keys) (level : ℕ) (deep : level ≤ 
   -- at a level that the key shares with the one before it none begins
   none_if_before : (i : ℕ) → i < length keys → level < levels_at keys i → is_cell_at keys level i ≡ false
   none_if_before zero h lt = absurd (omega (arith, levels-first keys))
-  none_if_before (suc i) h lt = begun_before i h
+  none_if_before (suc i) h lt = none_again i h
       (prefix_from_shared keys ok level deep i (suc i) (omega arith) h (omega (arith, lt, levels-between keys i h)))
 
   -- at any other the two have two prefixes
@@ -128,15 +122,17 @@ module _ (keys : List Key) (ok : IsLawful keys) (level : ℕ) (deep : level ≤ 
       ∙ ap (λ k. cells_from keys level 0 i ++ cells_from keys level k 1) here)
       ∙ length-append (cells_from keys level 0 i) (cells_from keys level i 1))
 
+  -- where it does that is one cell
   one_here : (i : ℕ) → is_cell_at keys level i ≡ true → length (cells_from keys level i 1) ≡ 1
   unfolding cells_from
   one_here i is = ap (λ b. length (cond b (cell_at keys level i ∷ []) [] ++ [])) is
 
+  -- and else none
   none_here : (i : ℕ) → is_cell_at keys level i ≡ false → length (cells_from keys level i 1) ≡ 0
   unfolding cells_from
   none_here i is = ap (λ b. length (cond b (cell_at keys level i ∷ []) [] ++ [])) is
 
-  -- so at each position the levels from one on up to another have one cell more
+  -- so a position adds a cell at each level from those of the pair before it to those of the pair behind it
   level_step : (i : ℕ) → i < length keys →
       length (cells_from keys level 0 (suc i)) + (min level (levels_at keys (suc i)) - levels_at keys i)
       ≡ length (cells_from keys level 0 i) + (min (suc level) (levels_at keys (suc i)) - levels_at keys i)
@@ -149,6 +145,7 @@ module _ (keys : List Key) (ok : IsLawful keys) (level : ℕ) (deep : level ≤ 
   ]
 
 module _ (keys : List Key) (ok : IsLawful keys) where
+  -- and over the levels from 0 to one, all of these
   levels_step : (level i : ℕ) → level ≤ LEVELS → i < length keys →
       begun keys level (suc i) ≡ begun keys level i + (min (suc level) (levels_at keys (suc i)) - levels_at keys i)
   unfolding begun
@@ -156,7 +153,7 @@ module _ (keys : List Key) (ok : IsLawful keys) where
   levels_step (suc level) i deep h =
       omega (arith, level_step keys ok (suc level) deep i h, levels_step level i (omega arith) h)
 
-  -- one pair of neighbours more
+  -- one more pair of neighbours adds the levels that it shares and the pair before it does not
   pub pair_step : (i : ℕ) → suc i < length keys →
       begun keys LEVELS (suc i) ≡ begun keys LEVELS i + (suc (shared_level keys i (suc i)) - levels_at keys i)
   pair_step i h = omega (

@@ -12,7 +12,7 @@ use Rattle.radix_tree.proofs.SplitLaws.{split_laws}
 use Rattle.octree_cells.specs.declared.cell.Cell.{Cell}
 use Rattle.octree_cells.specs.Cells.{prefix_at, IsCell, Lists, AreCells}
 use Rattle.octree_cells.specs.CellsOf.{cells_of}
-use Rattle.octree_cells.specs.Edges.{shared_level, IsApart, cell_over, cells_in}
+use Rattle.octree_cells.specs.Levels.{shared_level, IsApart, cell_over, cells_in}
 use Rattle.octree_cells.proofs.Prefixes.{prefix_le, prefixes_differ}
 use Rattle.octree_cells.proofs.Runs.{IsRun, in_run, before_run, after_run, cells_of_run, cells_of_one}
 use Rattle.octree_cells.proofs.Parting.{cells_in-parted, left_apart, right_apart, middle_differs, run_from_shared, one_run, cells_of-whole, cells_of-empty, whole_apart}

@@ -3,7 +3,6 @@ pub mod Runs
 pub mod Parting
 pub mod CellLaws
 pub mod SharedBits
-pub mod EdgeLaws
 pub mod Walking
 pub mod Beginnings
 mod Examples

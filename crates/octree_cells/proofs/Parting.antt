@@ -4,13 +4,11 @@ use Rattle.morton_key.specs.declared.keys.Key.{Key}
 use Rattle.morton_key.specs.declared.keys.TheConstants.{LEVELS}
 use Rattle.morton_key.specs.Keys.{IsLawful}
 use Rattle.radix_tree.specs.Split.{split}
-use Rattle.radix_tree.specs.Ranges.{IsRange}
 use Rattle.radix_tree.proofs.SplitLaws.{split_laws}
-use Rattle.radix_tree.proofs.RangeLaws.{range_laws}
 use Rattle.octree_cells.specs.declared.cell.Cell.{Cell}
 use Rattle.octree_cells.specs.Cells.{prefix_at}
 use Rattle.octree_cells.specs.CellsOf.{is_cell_at, cell_at, cells_from, cells_of}
-use Rattle.octree_cells.specs.Edges.{shared_level, IsApart, cells_in}
+use Rattle.octree_cells.specs.Levels.{shared_level, IsApart, cells_in}
 use Rattle.octree_cells.proofs.Prefixes.{prefixes_differ, prefix_from_shared, shared_from_gap}
 use Rattle.octree_cells.proofs.Runs.{IsRun}
 
@@ -77,29 +75,6 @@ module _ (keys : List Key) (ok : IsLawful keys) (level : ℕ) (deep : level ≤ 
         before = λ _. rw (here, next) (prefixes_differ keys ok level deep s (suc s) (omega (arith, q.high))
             (omega (arith, q.high)) (middle_differs a b s lt h e less));
         after = apart.after;
-      }
-
-  -- a range of the tree stands alone at each level that it does not share
-  pub range_apart : (a b : ℕ) → IsRange keys a b → shared_level keys a b < level → IsApart keys level a b
-  range_apart a b r less =
-      let p = range_laws keys ok r in
-      record {
-        before = λ pos. prefixes_differ keys ok level deep (a - 1) a (omega (arith, p.order, p.within))
-            (omega (arith, p.order, p.within))
-            (omega (
-              arith,
-              less,
-              shared_from_gap keys ok (a - 1) a a b (omega (arith, p.order, p.within))
-                  (omega (arith, p.order, p.within)) (omega (arith, p.order, p.within)) p.within
-                  (omega (arith, p.before pos)),
-            ));
-        after = λ more. prefixes_differ keys ok level deep b (suc b) p.within more
-            (omega (
-              arith,
-              less,
-              shared_from_gap keys ok b (suc b) a b p.within more (omega (arith, p.order, p.within)) p.within
-                  (omega (arith, p.after more)),
-            ));
       }
 
   -- a range that shares the level, and stands alone, is a run

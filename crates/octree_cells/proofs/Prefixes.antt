@@ -10,7 +10,7 @@ use Rattle.morton_key.proofs.BitLaws.{div_mono, differing_least}
 use Rattle.morton_key.proofs.KeyLaws.{code_le, measure_gap}
 use Rattle.morton_key.proofs.GapLaws.{gap_above}
 use Rattle.octree_cells.specs.Cells.{prefix_of, prefix_at}
-use Rattle.octree_cells.specs.Edges.{shared_level}
+use Rattle.octree_cells.specs.Levels.{shared_level}
 
 module _ (keys : List Key) (ok : IsLawful keys) (level : ℕ) (deep : level ≤ LEVELS) where
   -- the prefix of a code stands at the head of its tag

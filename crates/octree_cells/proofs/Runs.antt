@@ -9,7 +9,7 @@ use Rattle.morton_key.specs.declared.keys.TheConstants.{LEVELS}
 use Rattle.morton_key.specs.Keys.{key_at, code_at, IsLawful}
 use Rattle.octree_cells.specs.Cells.{prefix_of, prefix_at}
 use Rattle.octree_cells.specs.CellsOf.{keys_with, last_with, is_cell_at, cell_at, cells_from}
-use Rattle.octree_cells.specs.Edges.{IsApart, cells_in, cell_over}
+use Rattle.octree_cells.specs.Levels.{IsApart, cells_in, cell_over}
 use Rattle.octree_cells.proofs.Prefixes.{prefix_le}
 
 -- the keys in [a, b] have one prefix, and no other key has it

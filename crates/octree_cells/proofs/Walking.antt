@@ -10,16 +10,22 @@ use Rattle.radix_tree.specs.Split.{split}
 use Rattle.radix_tree.specs.Ranges.{IsNode, HasRange}
 use Rattle.radix_tree.specs.Table.{Contents, node_at, IsTable}
 use Rattle.radix_tree.specs.Filling.{IsChild, span_of}
+use Rattle.radix_tree.proofs.SplitLaws.{split_laws}
 use Rattle.radix_tree.proofs.NumberLaws.{proper, one_range}
 use Rattle.radix_tree.proofs.NodeLaws.{node_within, root_node}
 use Rattle.radix_tree.proofs.RowLaws.{node_is}
 use Rattle.radix_tree.proofs.DescentLaws.{row_range, child_from_range, span_from_range}
 use Rattle.octree_cells.specs.declared.cell.Cell.{Cell}
 use Rattle.octree_cells.specs.CellsOf.{cells_of}
-use Rattle.octree_cells.specs.Edges.{shared_level, IsApart, cell_over, cells_in}
+use Rattle.octree_cells.specs.Levels.{shared_level, IsApart, cell_over, cells_in}
 use Rattle.octree_cells.proofs.Runs.{cells_of_run, cells_of_one}
 use Rattle.octree_cells.proofs.Parting.{cells_in-parted, left_apart, right_apart, run_from_shared, one_run, cells_of-whole, cells_of-empty, whole_apart}
-use Rattle.octree_cells.proofs.EdgeLaws.{Edges, edges_of}
+
+-- a node's range lies among the keys, and its split parts it
+record IsParted (keys : List Key) (node : Node) : Type 0 where
+  low : node.first ≤ node.split
+  high : node.split < node.last
+  within : node.last < length keys
 
 module _ (t : Contents) (table : IsTable t) (level : ℕ) (deep : level ≤ LEVELS) where
   -- fewer than two keys have no cell
@@ -76,8 +82,13 @@ module _ (t : Contents) (table : IsTable t) (level : ℕ) (deep : level ≤ LEVE
     abbrev node : Node
     node = node_at t.nodes k
 
-    pub edges : Edges t.keys node
-    edges = edges_of t.keys table.lawful k node (table.each k inside)
+    parted : IsParted t.keys node
+    parted =
+        let row = table.each k inside in
+        let order = proper t.keys table.lawful row.range in
+        let within = node_within t.keys table.lawful row.range in
+        let q = split_laws t.keys table.lawful node.first node.last node.split order within (sym row.part) in
+        record { low = q.low; high = q.high; within = within }
 
     -- a node that was read is that of the table
     pub read_is : (nodes : List Node) (x : Node) → nodes ≡ t.nodes → x ≡ get_or nodes k x → x ≡ node
@@ -86,10 +97,10 @@ module _ (t : Contents) (table : IsTable t) (level : ℕ) (deep : level ≤ LEVE
 
     -- so its range lies among the keys
     pub first_within : (x : Node) → x ≡ node → x.first < length t.keys
-    first_within x e = omega (arith, ap (λ y. y.first) e, edges.low, edges.high, edges.within)
+    first_within x e = omega (arith, ap (λ y. y.first) e, parted.low, parted.high, parted.within)
 
     pub last_within : (x : Node) → x ≡ node → x.last < length t.keys
-    last_within x e = omega (arith, ap (λ y. y.last) e, edges.within)
+    last_within x e = omega (arith, ap (λ y. y.last) e, parted.within)
 
     -- and shares what the table's node does
     pub read_shares : (keys : List Key) (x : Node) → keys ≡ t.keys → x ≡ node →
@@ -119,8 +130,8 @@ module _ (t : Contents) (table : IsTable t) (level : ℕ) (deep : level ≤ LEVE
         after ≡ before ++ cells_in t.keys level a b
     node_adds_cell shared cell e before after grown apart a b d =
         let row = row_range t table k a b d in
-        let order : node.first < node.last = omega (arith, edges.low, edges.high) in
-        let run = run_from_shared t.keys table.lawful level deep node.first node.last (omega arith) edges.within shared
+        let order : node.first < node.last = omega (arith, parted.low, parted.high) in
+        let run = run_from_shared t.keys table.lawful level deep node.first node.last (omega arith) parted.within shared
         apart in
         grown
         ∙ ap (λ xs. before ++ xs) (ap (λ c. c ∷ []) e
@@ -136,34 +147,34 @@ module _ (t : Contents) (table : IsTable t) (level : ℕ) (deep : level ≤ LEVE
         let row = row_range t table k a b d in
         let first = cells_in t.keys level node.first node.split in
         let then = cells_in t.keys level (node.split + 1) node.last in
-        let whole = sym (cells_in-parted t.keys level node.first node.split node.last edges.low edges.high)
+        let whole = sym (cells_in-parted t.keys level node.first node.split node.last parted.low parted.high)
         ∙ (ap (cells_in t.keys level node.first) row.2 ∙ ap (λ z. cells_in t.keys level z b) row.1) in
         on_right ∙ (ap (λ xs. xs ++ then) on_left ∙ (append_assoc before first then ∙ ap (λ xs. before ++ xs) whole))
 
     -- the left child stands in the tree, spans less and stands alone
     pub left_is_child : (l : Child) → HasRange t.keys l node.first node.split → IsChild t l
-    left_is_child l d = child_from_range t table l _ _ (omega (arith, edges.high, edges.within)) d
+    left_is_child l d = child_from_range t table l _ _ (omega (arith, parted.high, parted.within)) d
 
     pub left_falls : (child l : Child) → child ≡ Inner k → HasRange t.keys l node.first node.split →
         span_of t l < span_of t child
     left_falls child l is d =
-        omega (arith, edges.low, edges.high, ap (span_of t) is, span_from_range t table l _ _ d)
+        omega (arith, parted.low, parted.high, ap (span_of t) is, span_from_range t table l _ _ d)
 
     pub left_alone : shared_level t.keys node.first node.last < level → IsApart t.keys level node.first node.last →
         IsApart t.keys level node.first node.split
     left_alone less apart = left_apart t.keys table.lawful level deep node.first node.last node.split
-        (omega (arith, edges.low, edges.high)) edges.within split_is less apart
+        (omega (arith, parted.low, parted.high)) parted.within split_is less apart
 
     -- so does the right child
     pub right_is_child : (r : Child) → HasRange t.keys r (node.split + 1) node.last → IsChild t r
-    right_is_child r d = child_from_range t table r _ _ edges.within d
+    right_is_child r d = child_from_range t table r _ _ parted.within d
 
     pub right_falls : (child r : Child) → child ≡ Inner k → HasRange t.keys r (node.split + 1) node.last →
         span_of t r < span_of t child
     right_falls child r is d =
-        omega (arith, edges.low, edges.high, ap (span_of t) is, span_from_range t table r _ _ d)
+        omega (arith, parted.low, parted.high, ap (span_of t) is, span_from_range t table r _ _ d)
 
     pub right_alone : shared_level t.keys node.first node.last < level → IsApart t.keys level node.first node.last →
         IsApart t.keys level (node.split + 1) node.last
     right_alone less apart = right_apart t.keys table.lawful level deep node.first node.last node.split
-        (omega (arith, edges.low, edges.high)) edges.within split_is less apart
+        (omega (arith, parted.low, parted.high)) parted.within split_is less apart

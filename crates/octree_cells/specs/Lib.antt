@@ -1,3 +1,3 @@
 pub mod Cells
 pub mod CellsOf
-pub mod Edges
+pub mod Levels

@@ -1,6 +1,7 @@
 //! The octree that lies in a radix tree: cells of the world that hold the centres of two or more triangles' boxes.
 //!
-//! A cell is the prefix of a code, so the cells of all levels are read from the edges of the tree; nothing is built.
+//! A cell is the prefix of a code, so the cells of a level are read from the tree, and the count of all from its keys;
+//! nothing is built.
 #![tactic(auto)]
 
 mod cell;

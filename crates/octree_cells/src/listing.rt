@@ -8,7 +8,7 @@ ghost use Rattle.radix_tree.specs.Table.{IsTable, node_at};
 ghost use Rattle.radix_tree.specs.Filling.{IsChild};
 ghost use Rattle.octree_cells.specs.Cells.{prefix_of, AreCells};
 ghost use Rattle.octree_cells.specs.CellsOf.{cells_of};
-ghost use Rattle.octree_cells.specs.Edges.{cell_over, cells_in, IsApart, shared_level};
+ghost use Rattle.octree_cells.specs.Levels.{cell_over, cells_in, IsApart, shared_level};
 
 use crate::sharing::shared_level;
 use crate::{Cell, CellList};

@@ -3,7 +3,7 @@
 
 ghost use Rattle.std.specs.Prelude.{◌≡◌, ◌<◌, ◌≤◌, length};
 ghost use Rattle.morton_key.specs.Keys.{IsLawful};
-ghost use Rattle.octree_cells.specs.Edges.{shared_level};
+ghost use Rattle.octree_cells.specs.Levels.{shared_level};
 
 use morton_key::{Key, LEVELS, WIDTH};
 

@@ -2,7 +2,7 @@ use Rattle.std.proofs.Common.{◌≡◌, ℕ, ◌+◌, ◌-◌, ◌<◌, suc, le
 use Rattle.morton_key.specs.declared.keys.TheConstants.{LEVELS}
 use Rattle.morton_key.specs.Keys.{IsLawful}
 use Rattle.octree_cells.specs.CellsOf.{cell_count_of}
-use Rattle.octree_cells.specs.Edges.{shared_level}
+use Rattle.octree_cells.specs.Levels.{shared_level}
 use Rattle.octree_cells.proofs.Beginnings.{levels_at, begun, levels-first, begun-none, levels-between, pair_step, begun-but_last}
 use Rattle.octree_cells.proofs.counting.count.Goals as goal
 

@@ -1,7 +1,7 @@
 use Rattle.std.proofs.Common.{◌<◌, length, ap, sym, ◌∙◌, subst, arith}
 use Rattle.morton_key.specs.Keys.{key_at, code_at}
 use Rattle.octree_cells.specs.Cells.{prefix_at}
-use Rattle.octree_cells.specs.Edges.{cell_over}
+use Rattle.octree_cells.specs.Levels.{cell_over}
 use Rattle.octree_cells.proofs.Walking.{read_is, first_within, last_within, read_shares, read_cell}
 use Rattle.octree_cells.proofs.listing.cell_of.Goals as goal
 

@@ -1,6 +1,6 @@
 use Rattle.std.proofs.Common.{arith}
 use Rattle.morton_key.specs.Keys.{code_at, key_at}
-use Rattle.octree_cells.specs.Edges.{shared_level}
+use Rattle.octree_cells.specs.Levels.{shared_level}
 use Rattle.octree_cells.proofs.SharedBits.{zeros_before}
 use Rattle.octree_cells.proofs.sharing.shared_level.Goals as goal
 

@@ -1,9 +1,9 @@
--- What the edges of a tree say of its cells, which the crate's own functions cite. No public clause cites this module.
-use Rattle.std.specs.Prelude.{ℕ, suc, ◌+◌, ◌-◌, ◌/◌, ◌<◌, ◌≢◌, ◌==◌, min, if◌then◌else◌, List, length}
+-- How far down keys share levels, and the cells of a range of keys, which the crate's own functions cite.
+-- No public clause cites this module.
+use Rattle.std.specs.Prelude.{ℕ, suc, ◌-◌, ◌/◌, ◌<◌, ◌≢◌, min, List, length}
 use Rattle.morton_key.specs.declared.keys.Key.{Key}
 use Rattle.morton_key.specs.declared.keys.TheConstants.{WIDTH}
 use Rattle.morton_key.specs.Measure.{measure}
-use Rattle.radix_tree.specs.declared.nodes.Node.{Node}
 use Rattle.octree_cells.specs.declared.cell.Cell.{Cell}
 use Rattle.octree_cells.specs.Cells.{prefix_at}
 use Rattle.octree_cells.specs.CellsOf.{cells_from}
@@ -24,13 +24,3 @@ cell_over keys level a b = record { level = level; prefix = prefix_at keys level
 -- the cells of a level whose first keys are in [a, b]
 unfoldable pub cells_in : List Key → ℕ → ℕ → ℕ → List Cell
 cells_in keys level a b = cells_from keys level a (suc b - a)
-
--- how many levels an edge adds to the parent's: those that the keys in [a, b] share beyond it; a leaf adds none
-unfoldable pub edge_levels : List Key → ℕ → ℕ → ℕ → ℕ
-edge_levels keys above a b = if a == b then 0 else shared_level keys a b - above
-
--- how many levels the edges to the two children of a node add
-unfoldable pub node_levels : List Key → Node → ℕ
-node_levels keys node =
-    edge_levels keys (shared_level keys node.first node.last) node.first node.split
-    + edge_levels keys (shared_level keys node.first node.last) (node.split + 1) node.last
