@@ -10,12 +10,21 @@ use crate::groups::GroupCount;
 use crate::reasons::fault_text;
 use crate::replies::Reply;
 use fixed_box::{Box3, Point};
-use itoa::{Buffer, Integer};
+use itoa::{Buffer, Integer, write_digits};
 use octree_cells::Cell;
 use outside::Memory;
 use radix_tree::Node;
 use segment_hit::Frac;
 use std::alloc::{AllocError, Global};
+
+/// So many bytes are reserved for a line.
+const LINE_ROOM: usize = 64;
+
+/// And so many for the number of a triangle, of which there are at most 2^20, and the space before it.
+const NUMBER_ROOM: usize = 8;
+
+/// A number below 2^64 and a space before it are no longer than this.
+const SPACED_ROOM: usize = 24;
 
 /// The text of the reply to the line of this number, with its line feed; no byte for `Nothing`.
 ///
@@ -31,10 +40,25 @@ use std::alloc::{AllocError, Global};
 pub fn reply_text(alloc: Global, line: u32, reply: &Reply) -> Result<Vec<u8>, Memory>
     ensures { IfOk result (λ text. text.items ≡ reply_text line reply.now) }
 {
-    let mut text = Vec::new(alloc);
+    let Ok(mut text) = Vec::with_capacity(alloc, room_of(reply)) else {
+        return Err(Memory);
+    };
     match add_reply(&mut text, line, reply) {
         Ok(()) => Ok(text),
         Err(_) => Err(Memory),
+    }
+}
+
+/// How many bytes are reserved for the text of a reply, so that it seldom has to grow.
+fn room_of(reply: &Reply) -> usize {
+    match reply {
+        Reply::Nothing => 0,
+        Reply::Overlaps(numbers) => numbers
+            .items()
+            .len()
+            .saturating_mul(NUMBER_ROOM)
+            .saturating_add(LINE_ROOM),
+        _ => LINE_ROOM,
     }
 }
 
@@ -81,9 +105,20 @@ fn add_numbers(text: &mut Vec<u8>, numbers: &[u32]) -> Result<(), AllocError>
     ensures { OnOk result (text.new.items ≡ text.old.items ++ spaced (map decimal numbers.now)) }
 {
     for n in numbers {
-        add_number(text, *n)?;
+        add_position(text, *n)?;
     }
     Ok(())
+}
+
+/// A space and the number of a triangle, added at once.
+#[inline(always)]
+fn add_position(text: &mut Vec<u8>, n: u32) -> Result<(), AllocError>
+    ensures { OnOk result (text.new.items ≡ text.old.items ++ (codes " " ++ decimal n)) }
+{
+    let mut word = [0u8; SPACED_ROOM];
+    let start = write_digits(u64::from(n), &mut word, SPACED_ROOM) - 1;
+    word[start] = b' ';
+    text.extend_from_slice(&word[start..])
 }
 
 fn add_hit(text: &mut Vec<u8>, tri: u32, at: &HitFraction) -> Result<(), AllocError>
