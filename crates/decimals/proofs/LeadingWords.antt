@@ -1,5 +1,5 @@
 -- A text that begins with a short decimal, behind which stands a byte that is in none.
-use Rattle.std.proofs.Common.{arith, ◌≡◌, ◌≤◌, ◌<◌, ◌-◌, ◌==◌, ◌||◌, ◌&&◌, ◌++◌, ◌∷◌, [], List, length, take, cond, not, IsTrue, ℕ, Bool, true, false, refl, sym, ap, ◌∙◌, subst, append_assoc, length-append, take_all, drop, slice_index_or}
+use Rattle.std.proofs.Common.{◌^◌, ℤ, Ok, arith, ◌≡◌, ◌≤◌, ◌<◌, ◌-◌, ◌==◌, ◌||◌, ◌&&◌, ◌++◌, ◌∷◌, [], List, length, take, cond, not, IsTrue, ℕ, Bool, true, false, refl, sym, ap, ◌∙◌, subst, append_assoc, length-append, take_all, drop, slice_index_or}
 use Rattle.std.specs.List.{list_all}
 use Rattle.std.proofs.Math.Seq.{take-append_seam}
 use Rattle.std.proofs.lemmas.Bool.Decides.{nat_tests}
@@ -9,9 +9,11 @@ use Rattle.text_words.specs.Numbers.{is_digit, value_after, starts_minus, past_s
 use Rattle.text_words.proofs.DigitRuns.{digit_parts}
 use Rattle.text_words.proofs.PlainLines.{all_pass}
 use Rattle.decimals.specs.Decimals.{fraction_of, past_fraction, whole_part, fraction_part, ending_part, mantissa_digits}
+use Rattle.decimals.specs.Fractions.{nearest_step, scaled}
+use Rattle.decimals.specs.Values.{brought_in, grid_of}
 use Rattle.decimals.specs.Rounding.{IsFront, IsReadAs}
 use Rattle.decimals.specs.declared.decimal.Decimal.{Decimal}
-use Rattle.decimals.proofs.Words.{front_read}
+use Rattle.decimals.proofs.Words.{front_read, value_of_word}
 
 -- ---- the parts of a text behind whose word such a byte stands are those of the word
 
@@ -247,5 +249,13 @@ word_plain word d p =
     }
 
 -- and it is read as that decimal
-pub word_read : (word : List ℕ) (d : Decimal) → IsFront word d [] → IsReadAs word d
+word_read : (word : List ℕ) (d : Decimal) → IsFront word d [] → IsReadAs word d
 word_read word d p = front_read word d [] p refl
+
+-- and has the value of its parts
+pub short_value : (unit : ℕ) (word : List ℕ) (d : Decimal) (v : ℤ) → unit < 2 ^ 32 → d.places < 2 ^ 64
+    → IsFront word d [] → v ≡ brought_in (nearest_step unit (scaled d.minus d.mantissa d.places d.raised d.lowered))
+    → Ok v ≡ grid_of unit word
+short_value unit word d v narrow near p e =
+    let few = p.few in
+    value_of_word unit word d v narrow near (word_read word d p) (omega (arith, few)) e

@@ -6,9 +6,9 @@ ghost use Rattle.decimals.specs.Values.{grid_of};
 
 use crate::fault::NumberFault;
 use crate::limits::PAST_MOST_DIGITS;
-use crate::parts::decimal_parts;
-use crate::rounding::grid_steps;
-use crate::short::short_front;
+use crate::parts::long_parts;
+use crate::rounding::{grid_steps, short_steps};
+use crate::short::{short_front, short_parts};
 
 /// The grid value of a decimal word: the whole number of grid steps nearest to it, with `unit` steps to one, exactly.
 ///
@@ -18,7 +18,10 @@ use crate::short::short_front;
 pub fn grid(word: &[u8], unit: u32) -> Result<i64, NumberFault>
     ensures { result ≡ grid_of unit word.now }
 {
-    let Some(decimal) = decimal_parts(word) else {
+    if let Some(decimal) = short_parts(word) {
+        return Ok(short_steps(&decimal, unit));
+    }
+    let Some(decimal) = long_parts(word) else {
         return Err(NumberFault::NotANumber);
     };
     if decimal.mantissa >= PAST_MOST_DIGITS {
@@ -47,5 +50,5 @@ pub fn grid_before(stop: u8, text: &[u8], unit: u32) -> Option<(i64, &[u8], &[u8
         return None;
     }
     let word = &text[..text.len() - rest.len()];
-    Some((grid_steps(&decimal, unit), word, behind))
+    Some((short_steps(&decimal, unit), word, behind))
 }

@@ -1,4 +1,4 @@
-//! A decimal word, taken apart from left to right in one pass. A short one is tried first.
+//! A decimal word, taken apart from left to right in one pass.
 
 ghost use Rattle.std.specs.Prelude.{◌≡◌, ◌≤◌, ◌+◌, ◌⊎◌, true, false, length, min, nat_lt, IfSome, MatchOption};
 ghost use Rattle.text_words.specs.Numbers.{value_after, starts_minus, digits_of, past_sign};
@@ -8,23 +8,12 @@ ghost use Rattle.decimals.specs.Rounding.{IsReadAs};
 use crate::decimal::Decimal;
 use crate::digits::digits;
 use crate::limits::PAST_MOST_DIGITS;
-use crate::short::short_parts;
 use text_words::sign;
 
-/// The parts of a decimal, or `None` where the word is none.
-pub fn decimal_parts(word: &[u8]) -> Option<Decimal>
-    ensures { MatchOption result (is_decimal word.now ≡ false) (IsReadAs word.now) }
-{
-    if let Some(decimal) = short_parts(word) {
-        return Some(decimal);
-    }
-    long_parts(word)
-}
-
-/// The parts of a decimal of any length.
+/// The parts of a decimal of any length, or `None` where the word is none.
 #[inline(never)]
 #[tactic(auto, using(crate::proofs::Words::no_digit, crate::proofs::Words::no_ending))]
-fn long_parts(word: &[u8]) -> Option<Decimal>
+pub fn long_parts(word: &[u8]) -> Option<Decimal>
     ensures { MatchOption result (is_decimal word.now ≡ false) (IsReadAs word.now) }
 {
     let (minus, body) = sign(word);

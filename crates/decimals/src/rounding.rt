@@ -7,9 +7,10 @@ ghost use Rattle.decimals.specs.Values.{brought_in};
 ghost use Rattle.decimals.specs.Rounding.{rounded, size_of};
 
 use crate::decimal::Decimal;
-use crate::limits::{FEW, GREATEST, PAST_MOST_DIGITS, POWERS};
+use crate::limits::{FEW, GREATEST, PAST_MOST_DIGITS, POWERS, SHORT, SHORT_UNIT};
 
 /// The grid value of a decimal.
+#[inline(never)]
 #[tactic(auto, using(crate::proofs::Powers::units_small))]
 pub fn grid_steps(d: &Decimal, unit: u32) -> i64
     requires mantissa { d.now.mantissa < PAST_MOST_DIGITS }
@@ -20,6 +21,26 @@ pub fn grid_steps(d: &Decimal, unit: u32) -> i64
     let units = d.mantissa * u128::from(unit);
     let size = size(d.minus, units, d.raised, d.places as u128 + d.lowered);
     signed(d.minus, size)
+}
+
+/// The same of a decimal without an exponent. Few digits, as nearly all have, are rounded in 64 bits throughout.
+#[inline(always)]
+pub fn short_steps(d: &Decimal, unit: u32) -> i64
+    requires mantissa { d.now.mantissa < FEW }
+    requires raised { d.now.raised ≡ 0 }
+    requires lowered { d.now.lowered ≡ 0 }
+    ensures { result ≡ brought_in (nearest_step unit
+        (scaled d.now.minus d.now.mantissa d.now.places d.now.raised d.now.lowered)) }
+{
+    let few = d.mantissa as u64;
+    if few >= SHORT || unit > SHORT_UNIT || d.places > 18 {
+        return grid_steps(d, unit);
+    }
+    let units = few * u64::from(unit);
+    signed(
+        d.minus,
+        short_quotient(d.minus, units, d.places).min(GREATEST),
+    )
 }
 
 /// The size of `n` times one power of ten over another, rounded and cut off at the greatest value.
@@ -34,6 +55,7 @@ fn size(minus: bool, n: u128, up: u128, down: u128) -> u64
     lowered(minus, n, down - up)
 }
 
+#[inline(always)]
 fn signed(minus: bool, size: u64) -> i64
     requires { size ≤ GREATEST }
     ensures { result ≡ with_sign minus size }
@@ -76,12 +98,14 @@ fn lowered(minus: bool, n: u128, tens: u128) -> u64
 
 /// A quotient by a power of ten in 64 bits, rounded. The compiler makes the division by a number that it knows into a
 /// product, several times as fast, so the usual places have one each.
+#[inline(always)]
 fn short_quotient(minus: bool, num: u64, tens: usize) -> u64
     requires num { num < FEW }
     requires tens { tens ≤ 18 }
     ensures { result ≡ rounded minus num (10 ^ tens) }
 {
     match tens {
+        0 => quotient(minus, num, 1),
         1 => quotient(minus, num, 10),
         2 => quotient(minus, num, 100),
         3 => quotient(minus, num, 1_000),

@@ -1,9 +1,9 @@
 //! Decimals as nearly all files write them: their digits fit 64 bits, and no exponent follows.
 
-ghost use Rattle.std.specs.Prelude.{◌≡◌, ◌<◌, IfSome, length};
+ghost use Rattle.std.specs.Prelude.{◌≡◌, ◌<◌, [], IfSome, length};
 ghost use Rattle.text_words.specs.Numbers.{value_after};
 ghost use Rattle.decimals.specs.Decimals.{fraction_of, past_fraction};
-ghost use Rattle.decimals.specs.Rounding.{IsReadAs, IsFront};
+ghost use Rattle.decimals.specs.Rounding.{IsFront};
 
 use crate::decimal::Decimal;
 use crate::limits::FEW;
@@ -12,7 +12,7 @@ use text_words::{digits, sign};
 
 /// The parts of a short decimal. `None` says nothing of the word.
 pub fn short_parts(word: &[u8]) -> Option<Decimal>
-    ensures { IfSome result (IsReadAs word.now) }
+    ensures { IfSome result (λ decimal. IsFront word.now decimal []) }
 {
     let (decimal, rest) = short_front(word)?;
     if !rest.is_empty() {

@@ -1,6 +1,6 @@
 //! The texts of replies, byte for byte: words with one space between two of them, and a line feed.
 
-ghost use Rattle.std.specs.Prelude.{◌≡◌, ◌++◌, [], ◌∷◌, IfOk, OnOk, codes, map, decimal};
+ghost use Rattle.std.specs.Prelude.{◌≡◌, ◌≤◌, ◌++◌, [], ◌∷◌, IfOk, OnOk, codes, length, map, decimal};
 ghost use Rattle.segment_hit.specs.HitOf.{ratio_of};
 ghost use Rattle.query_script.specs.Replies.{reply_text, line_of, refusal_text, spaced, counted_words, group_words, tally_words, ratio_word, point_words, box_words, range_words, node_words, prefixes, stat_words, is_refused};
 
@@ -10,12 +10,24 @@ use crate::groups::GroupCount;
 use crate::reasons::fault_text;
 use crate::replies::Reply;
 use fixed_box::{Box3, Point};
-use itoa::{Buffer, Integer};
+use itoa::{Buffer, Integer, write_digits};
 use octree_cells::Cell;
 use outside::Memory;
 use radix_tree::Node;
 use segment_hit::Frac;
 use std::alloc::{AllocError, Global};
+
+/// So many bytes are reserved for a line.
+const LINE_ROOM: usize = 64;
+
+/// And so many for the number of a triangle, of which there are at most 2^20, and the space before it.
+const NUMBER_ROOM: usize = 8;
+
+/// So many numbers are added at once.
+const AT_ONCE: usize = 16;
+
+/// That is their room: a number of 32 bits has at most ten digits, and a space stands before it.
+const ROOM_AT_ONCE: usize = 176;
 
 /// The text of the reply to the line of this number, with its line feed; no byte for `Nothing`.
 ///
@@ -31,10 +43,25 @@ use std::alloc::{AllocError, Global};
 pub fn reply_text(alloc: Global, line: u32, reply: &Reply) -> Result<Vec<u8>, Memory>
     ensures { IfOk result (λ text. text.items ≡ reply_text line reply.now) }
 {
-    let mut text = Vec::new(alloc);
+    let Ok(mut text) = Vec::with_capacity(alloc, room_of(reply)) else {
+        return Err(Memory);
+    };
     match add_reply(&mut text, line, reply) {
         Ok(()) => Ok(text),
         Err(_) => Err(Memory),
+    }
+}
+
+/// How many bytes are reserved for the text of a reply, so that it seldom has to grow.
+fn room_of(reply: &Reply) -> usize {
+    match reply {
+        Reply::Nothing => 0,
+        Reply::Overlaps(numbers) => numbers
+            .items()
+            .len()
+            .saturating_mul(NUMBER_ROOM)
+            .saturating_add(LINE_ROOM),
+        _ => LINE_ROOM,
     }
 }
 
@@ -80,10 +107,29 @@ fn add_overlaps(text: &mut Vec<u8>, numbers: &[u32]) -> Result<(), AllocError>
 fn add_numbers(text: &mut Vec<u8>, numbers: &[u32]) -> Result<(), AllocError>
     ensures { OnOk result (text.new.items ≡ text.old.items ++ spaced (map decimal numbers.now)) }
 {
-    for n in numbers {
-        add_number(text, *n)?;
+    let mut rest = numbers;
+    while !rest.is_empty() {
+        let (few, more) = rest.split_at(rest.len().min(AT_ONCE));
+        add_few_numbers(text, few)?;
+        rest = more;
     }
     Ok(())
+}
+
+/// The same of few numbers, which are written from the last to the first, and then added at once.
+fn add_few_numbers(text: &mut Vec<u8>, numbers: &[u32]) -> Result<(), AllocError>
+    requires { length numbers.now ≤ AT_ONCE }
+    ensures { OnOk result (text.new.items ≡ text.old.items ++ spaced (map decimal numbers.now)) }
+{
+    let mut words = [0u8; ROOM_AT_ONCE];
+    let mut at = ROOM_AT_ONCE;
+    let mut left = numbers.len();
+    while left > 0 {
+        left -= 1;
+        at = write_digits(u64::from(numbers[left]), &mut words, at) - 1;
+        words[at] = b' ';
+    }
+    text.extend_from_slice(&words[at..])
 }
 
 fn add_hit(text: &mut Vec<u8>, tri: u32, at: &HitFraction) -> Result<(), AllocError>

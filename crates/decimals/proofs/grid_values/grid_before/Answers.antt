@@ -1,15 +1,14 @@
 use Rattle.std.proofs.Common.{rules, ◌≡◌, ◌≤◌, ◌-◌, ◌∷◌, ◌++◌, ◌∙◌, [], length, take, drop, slice_index_or, ap, sym}
 use Rattle.decimals.specs.Rounding.{IsFront}
-use Rattle.decimals.proofs.Words.{value_of_word}
-use Rattle.decimals.proofs.LeadingWords.{word_of, word_parted, rest_within, word_front, word_plain, word_read, first_parted}
+use Rattle.decimals.proofs.LeadingWords.{word_of, word_parted, rest_within, word_front, word_plain, short_value, first_parted}
 use Rattle.decimals.proofs.grid_values.grid_before.Goals as goal
 
 -- the decimal that was read, and what follows it
-read : (c : goal.After-grid_steps) → IsFront c.args.text.now c.in-Some.decimal c.in-Some.rest.now
+read : (c : goal.After-short_steps) → IsFront c.args.text.now c.in-Some.decimal c.in-Some.rest.now
 read c = search rules
 
 -- what follows it begins with the byte
-stops : (c : goal.After-grid_steps) → c.in-Some.rest.now
+stops : (c : goal.After-short_steps) → c.in-Some.rest.now
     ≡ c.args.stop ∷ take (length c.in-Some.rest.now - 1) (drop 1 c.in-Some.rest.now)
 stops c =
     let rest = c.in-Some.rest.now in
@@ -18,7 +17,7 @@ stops c =
     first_parted c.args.stop rest some first
 
 -- its word begins with it
-word : (c : goal.After-grid_steps) → IsFront (word_of c.args.text.now c.in-Some.rest.now) c.in-Some.decimal []
+word : (c : goal.After-short_steps) → IsFront (word_of c.args.text.now c.in-Some.rest.now) c.in-Some.decimal []
 word c =
     let rest = c.in-Some.rest.now in
     word_front c.args.text.now c.in-Some.decimal rest c.args.stop (take (length rest - 1) (drop 1 rest)) (read c)
@@ -31,11 +30,8 @@ slice_bounds-word-count c =
 
 pub returns-clause-value : goal.returns-clause-value
 returns-clause-value c =
-    let text = word_of c.args.text.now c.in-Some.rest.now in
-    let read = word_read text c.in-Some.decimal (word c) in
-    let few = (word c).few in
-    sym (value_of_word c.args.unit text c.in-Some.decimal _ (search rules) (search rules) read (search (rules, few))
-    (search rules))
+    sym (short_value c.args.unit (word_of c.args.text.now c.in-Some.rest.now) c.in-Some.decimal _ (search rules)
+    (search rules) (word c) (search rules))
 
 pub returns-clause-whole : goal.returns-clause-whole
 returns-clause-whole c =

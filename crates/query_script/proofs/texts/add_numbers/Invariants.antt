@@ -1,8 +1,10 @@
-use Rattle.std.proofs.Common.{◌≡◌, ◌++◌, drop, map, decimal}
+use Rattle.std.proofs.Common.{◌≡◌, ◌++◌, map, decimal, length}
 use Rattle.query_script.specs.Replies.{spaced}
 use Rattle.query_script.proofs.texts.add_numbers.Given as goal
 
-abbrev pub invariant-loop-n : goal.invariant-loop-n
-invariant-loop-n l =
-    l.text.items ++ spaced (map decimal (drop l.n-index l.numbers))
-    ≡ l.initial.text.items ++ spaced (map decimal l.numbers)
+abbrev pub invariant-loop-rest : goal.invariant-loop-rest
+invariant-loop-rest l =
+    l.text.items ++ spaced (map decimal l.rest) ≡ l.initial.text.items ++ spaced (map decimal l.numbers)
+
+abbrev pub decreases-loop-rest : goal.decreases-loop-rest
+decreases-loop-rest l = length l.rest
