@@ -1,3 +1,5 @@
+pub mod Options
+pub mod PlanParts
 pub mod Few
 pub mod Bounds
 pub mod OneCommand

@@ -20,7 +20,7 @@ use Rattle.command_line.specs.Values.{number_in, build_of}
 use Rattle.command_line.specs.Items.{items_of}
 use Rattle.command_line.specs.Plans.{mesh_place, grid_squares, worker_count, build_named, unit_steps, plan_with, item_plan, plan_of}
 use Rattle.command_line.specs.Uses.{read_or, Use, rows, fresh, ends, cut, is_mesh, mesh_from, input_from, plan_from, row_plan, given_plan}
-use Rattle.command_line.proofs.Few.{once_few, input_few}
+use Rattle.command_line.proofs.PlanParts.{once_few, input_few}
 use Rattle.command_line.proofs.Grammar.{erase, read_all, read, items_read}
 use Rattle.command_line.proofs.MeshPlace.{mesh_is}
 use Rattle.command_line.proofs.Gathered.{texts, first_texts, fresh_short, stale_twice, all_read, is_read, Reads, mesh_count, grid_count, worker_total, build_count, unit_count, plan_is}
