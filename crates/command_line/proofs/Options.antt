@@ -13,3 +13,8 @@ pub chosen : {A : Type 0} (b : Bool) (o : Option A) (x : A) → (if b then o els
     → (b ≡ true) × (o ≡ Some x)
 chosen true o x e = (refl, e)
 chosen false o x e = absurd cc
+
+-- no changed value comes from none
+pub unmapped : {A B : Type 0} (f : A → B) (o : Option A) → option_map f o ≡ None → o ≡ None
+unmapped f None e = refl
+unmapped f (Some x) e = cc
