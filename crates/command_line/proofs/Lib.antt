@@ -1,10 +1,14 @@
+pub mod Options
+pub mod PlanParts
 pub mod Few
 pub mod Bounds
+pub mod EqualsSign
+pub mod Reading
+pub mod Grammar
 pub mod OneCommand
 pub mod OneWalk
 pub mod OneRun
-pub mod Grammar
-pub mod MeshPlace
+pub mod Texts
 pub mod Gathered
 pub mod SamePlan
 pub mod RowValues

@@ -1,182 +1,194 @@
 -- The plan of the words is the plan of what a parse by the one command finds.
-use Rattle.std.proofs.Common.{◌≡◌, ◌∙◌, ap, ℕ, ◌+◌, ◌≤◌, Bool, true, false, if◌then◌else◌, List, [], ◌∷◌, map, length, Option, None, Some, is_some, refl, sym, arith}
-use Rattle.std.specs.Prelude.{option_map, option_and_then, filter_map, slice_get}
-use Rattle.std.specs.Option.{option_map_or}
-use Rattle.std.specs.List.{list_all}
-use Rattle.clap.specs.Walk.{Text}
-use Rattle.obj_text.specs.declared.limits.TheConstants.{LEAST_GRID, MOST_GRID}
+use Rattle.std.proofs.Common.{◌≡◌, ◌∙◌, ℕ, ◌+◌, ◌≤◌, Bool, true, false, List, [], ◌∷◌, length, suc, Option, None, Some, refl, subst, sym, arith}
+use Rattle.std.specs.Prelude.{option_and_then, filter_map, slice_get}
+use Rattle.std.proofs.Common.{inl, inr}
+use Rattle.std.proofs.lemmas.Option.{slice_get_within}
+use Rattle.clap.specs.Walk.{Text, first_of}
 use Rattle.fixed_box.specs.declared.shapes.TheConstants.{UNIT_MAX}
+use Rattle.obj_text.specs.declared.limits.TheConstants.{LEAST_GRID, MOST_GRID}
 use Rattle.command_line.specs.declared.limits.TheConstants.{MOST_WORKERS, WORKERS, UNIT}
 use Rattle.command_line.specs.Parts.{Name}
 use Rattle.command_line.specs.Parts.{Name as name}
 use Rattle.command_line.specs.Parts.{Item}
-use Rattle.command_line.specs.Parts.{Item as item}
-use Rattle.command_line.specs.declared.plan.Build.{Build}
 use Rattle.command_line.specs.declared.plan.Build.TheVariants.{Karras}
-use Rattle.command_line.specs.declared.plan.Input.TheVariants.{Grid}
 use Rattle.command_line.specs.declared.plan.Input.{Input}
+use Rattle.command_line.specs.declared.plan.Input.TheVariants.{Grid}
 use Rattle.command_line.specs.declared.plan.Plan.{Plan}
 use Rattle.command_line.specs.Values.{number_in, build_of}
 use Rattle.command_line.specs.Items.{items_of}
-use Rattle.command_line.specs.Plans.{mesh_place, grid_squares, worker_count, build_named, unit_steps, plan_with, item_plan, plan_of}
-use Rattle.command_line.specs.Uses.{read_or, Use, rows, fresh, ends, cut, is_mesh, mesh_from, input_from, plan_from, row_plan, given_plan}
-use Rattle.command_line.proofs.Few.{once_few, input_few}
-use Rattle.command_line.proofs.Grammar.{erase, read_all, read, items_read}
-use Rattle.command_line.proofs.MeshPlace.{mesh_is}
-use Rattle.command_line.proofs.Gathered.{texts, first_texts, fresh_short, stale_twice, all_read, is_read, Reads, mesh_count, grid_count, worker_total, build_count, unit_count, plan_is}
-use Rattle.command_line.proofs.OneRun.{NoDashes}
+use Rattle.command_line.specs.Plans.{mesh_place, grid_squares, worker_count, build_named, unit_steps, once_or, input_of, plan_with, item_plan, plan_of}
+use Rattle.command_line.specs.Uses.{key_text, read_or, Use, rows, fresh, ends, cut, has_dashes, input_from, is_mesh, mesh_from, plan_from, row_plan, given_plan}
+use Rattle.command_line.proofs.Options.{mapped}
+use Rattle.command_line.proofs.PlanParts.{IsMadeOf, input_few, made_of, once_few}
+use Rattle.command_line.proofs.Reading.{Agree, HasUnread, SaysNothing, first_mesh}
+use Rattle.command_line.proofs.Grammar.{agree}
+use Rattle.command_line.proofs.Texts.{EachOnce, first_text, fresh_once, same_key, same_self, texts}
+use Rattle.command_line.proofs.Gathered.{IsGathered, NamesMesh, Only, Pairs, ReadsAs, as_many, gathered, only}
 
--- ---- a plan has no argument twice
+-- the value that a parse finds of an argument
+abbrev found_text : Option Name → List Use → Option Text
+found_text k us = first_of (key_text k) (rows us)
 
-plan_parts : (i : Option Input) (w : Option ℕ) (b : Option Build) (u : Option ℕ) (plan : Plan) → plan_with i w b u ≡ Some plan
-    → ((x : Input) × (i ≡ Some x)) × ((x : ℕ) × (w ≡ Some x)) × ((x : Build) × (b ≡ Some x)) × ((x : ℕ) × (u ≡ Some x))
-plan_parts (Some i) (Some w) (Some b) (Some u) plan e = ((i, refl), (w, refl), (b, refl), (u, refl))
-plan_parts None w b u plan e = absurd (let bad : ⊥ = cc in bad)
-plan_parts (Some i) None b u plan e = absurd (let bad : ⊥ = cc in bad)
-plan_parts (Some i) (Some w) None u plan e = absurd (let bad : ⊥ = cc in bad)
-plan_parts (Some i) (Some w) (Some b) None plan e = absurd (let bad : ⊥ = cc in bad)
+-- ---- items that are read, each argument once
 
-module _ (us : List Use) (items : List Item) (as_read : read_all us ≡ Some (map erase items)) (plan : Plan) (e : item_plan items ≡ Some plan) where
-  each_once : (k : Option Name) → length (texts k us) ≤ 1
-  each_once k =
-      let parts = plan_parts _ _ _ _ plan e in
-      go k (input_few (filter_map mesh_place items) (filter_map grid_squares items) (filter_map unit_steps items) parts.0.0 parts.0.1) (once_few WORKERS (filter_map worker_count items) parts.1.0 parts.1.1)
-      (once_few _ (filter_map build_named items) parts.2.0 parts.2.1) (once_few UNIT (filter_map unit_steps items) parts.3.0 parts.3.1)
+-- the only value that is read, or the default, is that of what was found
+same_choice : {A : Type 0} (default : A) (read : Text → Option A) (text : Option Text) (vs : List A)
+    → Only (ReadsAs read) text vs → once_or default vs ≡ read_or default read text
+same_choice default read None [] h = refl
+same_choice default read (Some t) (v ∷ []) h = sym h
+same_choice default read _ _ h = absurd assumption
+
+-- the input is that of what was found
+same_input : (mesh grid unit : Option Text) (places squares steps : List ℕ) → Only NamesMesh mesh places
+    → Only (ReadsAs (number_in LEAST_GRID MOST_GRID)) grid squares → Only (ReadsAs (number_in 1 UNIT_MAX)) unit steps
+    → input_of places squares steps ≡ input_from mesh grid unit (slice_get places 0)
+same_input None None unit [] [] steps m g u = refl
+same_input None (Some grid) None [] (n ∷ []) [] m g u = rw g refl
+same_input None (Some grid) (Some unit) [] (n ∷ []) (s ∷ []) m g u = refl
+same_input (Some mesh) None unit (place ∷ []) [] steps m g u = rw m refl
+same_input (Some mesh) (Some grid) unit (place ∷ []) (n ∷ []) steps m g u = refl
+same_input _ _ _ _ _ _ m g u = absurd assumption
+
+module _ (us : List Use) (items : List Item) (are : IsGathered us items) where
+  -- an argument with at most one text has at most the one value that was found
+  only_found : {A : Type 0} (R : Text → A → Type 0) (k : Option Name) (vs : List A) → EachOnce us
+      → Pairs R (texts k us) vs → Only R (found_text k us) vs
+  only_found R k vs once h = subst (λ o. Only R o vs) (sym (first_text k us)) (only R (texts k us) vs (once k) h)
+
+  -- what an option chooses is read of what was found
+  found_choice : {A : Type 0} (default : A) (read : Text → Option A) (k : Option Name) (vs : List A) → EachOnce us
+      → Pairs (ReadsAs read) (texts k us) vs → once_or default vs ≡ read_or default read (found_text k us)
+  found_choice default read k vs once h =
+      same_choice default read (found_text k us) vs (only_found (ReadsAs read) k vs once h)
+
+  -- where each argument stands at most once, the plan is that of what was found
+  once_same : EachOnce us → item_plan items ≡ row_plan (first_mesh items) (rows us)
+  once_same once =
+      let workers = found_choice WORKERS (number_in 1 MOST_WORKERS) (Some name.Workers) (filter_map worker_count items)
+      once are.workers in
+      let build = found_choice Karras build_of (Some name.Build) (filter_map build_named items) once are.builds in
+      let unit = found_choice UNIT (number_in 1 UNIT_MAX) (Some name.Unit) (filter_map unit_steps items)
+      once are.units in
+      let input = same_input (found_text None us) (found_text (Some name.Grid) us) (found_text (Some name.Unit) us)
+      (filter_map mesh_place items) (filter_map grid_squares items) (filter_map unit_steps items)
+      (only_found NamesMesh None (filter_map mesh_place items) once are.meshes)
+      (only_found (ReadsAs (number_in LEAST_GRID MOST_GRID)) (Some name.Grid) (filter_map grid_squares items)
+      once are.grids)
+      (only_found (ReadsAs (number_in 1 UNIT_MAX)) (Some name.Unit) (filter_map unit_steps items) once are.units) in
+      λ i. plan_with (input i) (workers i) (build i) (unit i)
+
+  -- a plan has each argument at most once
+  plan_once : (plan : Plan) → item_plan items ≡ Some plan → EachOnce us
+  plan_once plan e k =
+      let parts = made_of _ _ _ _ plan e in
+      let inputs = input_few (filter_map mesh_place items) (filter_map grid_squares items) _ _ parts.input_is in
+      go inputs (once_few _ (filter_map worker_count items) _ parts.workers_are)
+      (once_few _ (filter_map build_named items) _ parts.build_is)
+      (once_few _ (filter_map unit_steps items) _ parts.unit_is) k
     where
-      go : (k : Option Name) → length (filter_map mesh_place items) + length (filter_map grid_squares items) ≤ 1 → length (filter_map worker_count items) ≤ 1
-          → length (filter_map build_named items) ≤ 1 → length (filter_map unit_steps items) ≤ 1 → length (texts k us) ≤ 1
-      go None m w b u = let same = mesh_count us items as_read in omega arith
-      go (Some name.Grid) m w b u = let same = grid_count us items as_read in omega arith
-      go (Some name.Workers) m w b u = let same = worker_total us items as_read in omega arith
-      go (Some name.Build) m w b u = let same = build_count us items as_read in omega arith
-      go (Some name.Unit) m w b u = let same = unit_count us items as_read in omega arith
+      go : length (filter_map mesh_place items) + length (filter_map grid_squares items) ≤ 1
+          → length (filter_map worker_count items) ≤ 1 → length (filter_map build_named items) ≤ 1
+          → length (filter_map unit_steps items) ≤ 1 → EachOnce us
+      go m w b u None = let same = as_many _ (texts None us) _ are.meshes in omega arith
+      go m w b u (Some name.Grid) = let same = as_many _ (texts (Some name.Grid) us) _ are.grids in omega arith
+      go m w b u (Some name.Workers) = let same = as_many _ (texts (Some name.Workers) us) _ are.workers in omega arith
+      go m w b u (Some name.Build) = let same = as_many _ (texts (Some name.Build) us) _ are.builds in omega arith
+      go m w b u (Some name.Unit) = let same = as_many _ (texts (Some name.Unit) us) _ are.units in omega arith
 
-  is_fresh : fresh [] us ≡ true
-  is_fresh = go (fresh [] us) refl
-    where
-      go : (b : Bool) → fresh [] us ≡ b → fresh [] us ≡ true
-      go true h = h
-      go false h =
-          let twice = stale_twice [] us h in
-          let once = each_once twice.0 in
-          absurd (let more : 2 ≤ length (texts twice.0 us) = twice.1 in omega arith)
+-- ---- a use that says nothing
 
--- ---- by what is found
+-- the text of a use that says nothing
+unread_text : (us : List Use) → HasUnread us
+    → (k : Option Name) × (text : Text) × (n : ℕ) × SaysNothing k text × (slice_get (texts k us) n ≡ Some text)
+unread_text [] h = absurd h
+unread_text (u ∷ us) (inl silent) = (u.0, u.1, 0, silent, rw (same_self u.0) refl)
+unread_text (u ∷ us) (inr h) = go (unread_text us h) (same_key u.0 (unread_text us h).0) refl
+  where
+    Found : List Use → Type 0
+    Found l = (k : Option Name) × (text : Text) × (n : ℕ) × SaysNothing k text
+        × (slice_get (texts k l) n ≡ Some text)
 
-row_is : (place : Option ℕ) (us : List Use) → row_plan place (rows us)
-    ≡ plan_from place (slice_get (texts None us) 0) (slice_get (texts (Some name.Grid) us) 0) (slice_get (texts (Some name.Workers) us) 0) (slice_get (texts (Some name.Build) us) 0)
-    (slice_get (texts (Some name.Unit) us) 0)
-row_is place us = rw (first_texts None us, first_texts (Some name.Grid) us, first_texts (Some name.Workers) us, first_texts (Some name.Build) us, first_texts (Some name.Unit) us) refl
+    go : (f : Found us) (is : Bool) → same_key u.0 f.0 ≡ is → Found (u ∷ us)
+    go f true e = (f.0, f.1, suc f.2, f.3, rw e f.4)
+    go f false e = (f.0, f.1, f.2, f.3, rw e f.4)
 
--- the plan of items that the words have
-module _ (words : List Text) (us : List Use) (items : List Item) (are : items_of words ≡ Some items) (as_cut : cut None words ≡ Some us)
-    (as_read : read_all us ≡ Some (map erase items)) (new : fresh [] us ≡ true) where
-  given_is : given_plan words ≡ row_plan (mesh_from false 0 words) (rows us)
-  given_is = ap (λ o. option_and_then (row_plan (mesh_from false 0 words)) (ends [] o)) as_cut
-      ∙ ap (λ b. option_and_then (row_plan (mesh_from false 0 words)) (if b then Some (rows us) else None)) new
+-- no file is named by a word that names no mesh
+no_file : (text : Text) (grid unit : Option Text) (place : Option ℕ) (input : Input) → is_mesh text ≡ false
+    → input_from (Some text) grid unit place ≡ Some input → ⊥
+no_file text None unit place input silent e =
+    let no : (let none : Option Input = None in none) ≡ Some input = rw silent at e in cc
+no_file text (Some grid) unit place input silent e = cc
 
-  plan_is_given : plan_of words ≡ given_plan words
-  plan_is_given =
-      ap (option_and_then item_plan) are ∙ plan_is us items as_read (fresh_short [] us new (λ k. omega arith))
-      ∙ sym (given_is ∙ ap (λ place. row_plan place (rows us)) (mesh_is None 0 words items are) ∙ row_is _ us)
+-- no number of squares is that of a text that is not read
+no_squares : (mesh : Option Text) (text : Text) (unit : Option Text) (place : Option ℕ) (input : Input)
+    → number_in LEAST_GRID MOST_GRID text ≡ None → input_from mesh (Some text) unit place ≡ Some input → ⊥
+no_squares None text None place input silent e = let made = mapped Grid _ input e in cc
+no_squares _ text _ place input silent e = cc
 
-back : (o : Option (List Item)) (c : Option (List Use)) (items : List Item) → option_map (map erase) o ≡ read c → o ≡ Some items → (us : List Use) × (c ≡ Some us) × (read_all us ≡ Some (map erase items))
-back None c items e is = absurd (let bad : ⊥ = cc in bad)
-back (Some l) None items e is = absurd (let bad : ⊥ = cc in bad)
-back (Some l) (Some us) items e is =
-    let same : l ≡ items = cc in
-    (us, refl, sym e ∙ ap (λ l. Some (map erase l)) same)
+-- no plan has a text that says nothing
+no_plan : (place : Option ℕ) (found : Option Name → Option Text) (plan : Plan) (k : Option Name) (text : Text)
+    → SaysNothing k text → found k ≡ Some text
+    → plan_from place (found None) (found (Some name.Grid)) (found (Some name.Workers)) (found (Some name.Build))
+    (found (Some name.Unit)) ≡ Some plan → ⊥
+no_plan place found plan k text silent is e = go k silent is (made_of _ _ _ _ plan e)
+  where
+    go : (k : Option Name) → SaysNothing k text → found k ≡ Some text
+        → IsMadeOf (input_from (found None) (found (Some name.Grid)) (found (Some name.Unit)) place)
+        (read_or WORKERS (number_in 1 MOST_WORKERS) (found (Some name.Workers)))
+        (read_or Karras build_of (found (Some name.Build))) (read_or UNIT (number_in 1 UNIT_MAX) (found (Some name.Unit)))
+        plan → ⊥
+    go None silent is parts = no_file text _ _ place plan.input silent (rw is at parts.input_is)
+    go (Some name.Grid) silent is parts = no_squares _ text _ place plan.input silent (rw is at parts.input_is)
+    go (Some name.Workers) silent is parts =
+        let read : number_in 1 MOST_WORKERS text ≡ Some plan.workers = rw is at parts.workers_are in cc
+    go (Some name.Build) silent is parts = let read : build_of text ≡ Some plan.build = rw is at parts.build_is in cc
+    go (Some name.Unit) silent is parts =
+        let read : number_in 1 UNIT_MAX text ≡ Some plan.unit = rw is at parts.unit_is in cc
 
-forth : (o : Option (List Item)) (us : List Use) → option_map (map erase) o ≡ read_all us → is_some (read_all us) ≡ true → (items : List Item) × (o ≡ Some items) × (read_all us ≡ Some (map erase items))
-forth None us e s = absurd (let no : false ≡ true = ap is_some e ∙ s in let bad : ⊥ = cc in bad)
-forth (Some l) us e s = (l, refl, sym e)
+-- so nothing is planned of uses with such a one
+unread_none : (place : Option ℕ) (us : List Use) → EachOnce us → HasUnread us → row_plan place (rows us) ≡ None
+unread_none place us once h = go (row_plan place (rows us)) refl
+  where
+    go : (o : Option Plan) → row_plan place (rows us) ≡ o → o ≡ None
+    go None e = refl
+    go (Some plan) e =
+        let unread = unread_text us h in
+        let few = once unread.0 in
+        let within = slice_get_within (texts unread.0 us) unread.2 unread.1 unread.4 in
+        let first : unread.2 ≡ 0 = omega arith in
+        let is : slice_get (texts unread.0 us) 0 ≡ Some unread.1 = rw (← first) unread.4 in
+        absurd (no_plan place (λ k. found_text k us) plan unread.0 unread.1 unread.3 (first_text unread.0 us ∙ is) e)
 
--- the texts of a plan are read
-abbrev head_read : Option Name → Option Text → Bool
-head_read k o = option_map_or (is_read k) o true
+-- ---- all words
 
-module _ (plan : Plan) where
-  mapped_read : {A : Type 0} (f : A → Item) (o : Option A) (x : A) → o ≡ Some x → is_some (option_map f o) ≡ true
-  mapped_read f o x e = rw e refl
+-- where items and uses agree, so do their plans
+plans_agree : (place : Option ℕ) (items : Option (List Item)) (uses : Option (List Use)) → Agree place items uses
+    → option_and_then item_plan items ≡ option_and_then (row_plan place) (ends [] uses)
+plans_agree place None None h = refl
+plans_agree place (Some items) None h = absurd h
+plans_agree place None (Some us) h = go (fresh [] us) refl
+  where
+    go : (new : Bool) → fresh [] us ≡ new
+        → (let none : Option Plan = None in none) ≡ option_and_then (row_plan place) (ends [] (Some us))
+    go false new = rw new refl
+    go true new = rw new (sym (unread_none place us ((fresh_once [] us (λ k. omega arith)).0 new) h))
+plans_agree place (Some items) (Some us) h = go (fresh [] us) refl
+  where
+    are : IsGathered us items
+    are = gathered us items h.0
 
-  -- the texts that give an input are read
-  input_heads : (mesh grid unit : Option Text) (place : Option ℕ) (input : Input) → input_from mesh grid unit place ≡ Some input
-      → (head_read None mesh ≡ true) × (head_read (Some name.Grid) grid ≡ true)
-  input_heads (Some mesh) None unit place input e = go (is_mesh mesh) refl
-    where
-      go : (t : Bool) → is_mesh mesh ≡ t → (head_read None (Some mesh) ≡ true) × (head_read (Some name.Grid) None ≡ true)
-      go true t = (rw t refl, refl)
-      go false t = absurd (let no : (let none : Option Input = None in none) ≡ Some input = rw t at e in let bad : ⊥ = cc in bad)
-  input_heads None (Some grid) None place input e = (refl, go (number_in LEAST_GRID MOST_GRID grid) e)
-    where
-      go : (o : Option ℕ) → option_map Grid o ≡ Some input → is_some (option_map item.Grid o) ≡ true
-      go None h = absurd (let bad : ⊥ = cc in bad)
-      go (Some squares) h = refl
-  input_heads None None unit place input e = absurd (let bad : ⊥ = cc in bad)
-  input_heads None (Some grid) (Some unit) place input e = absurd (let bad : ⊥ = cc in bad)
-  input_heads (Some mesh) (Some grid) unit place input e = absurd (let bad : ⊥ = cc in bad)
+    none : fresh [] us ≡ false → (o : Option Plan) → item_plan items ≡ o → o ≡ None
+    none new None e = refl
+    none new (Some plan) e =
+        let fresh_too : fresh [] us ≡ true = (fresh_once [] us (λ k. omega arith)).1 (plan_once us items are plan e) in
+        absurd cc
 
-  -- the texts that give a plan are read
-  heads : (place : Option ℕ) (m g w b u : Option Text) → plan_from place m g w b u ≡ Some plan
-      → (head_read None m ≡ true) × (head_read (Some name.Grid) g ≡ true) × (head_read (Some name.Workers) w ≡ true) × (head_read (Some name.Build) b ≡ true) × (head_read (Some name.Unit) u ≡ true)
-  heads place m g w b u e =
-      let parts = plan_parts (input_from m g u place) (read_or WORKERS (number_in 1 MOST_WORKERS) w) (read_or Karras build_of b) (read_or UNIT (number_in 1 UNIT_MAX) u) plan e in
-      let named = input_heads m g u place parts.0.0 parts.0.1 in
-      (named.0, named.1, workers w parts.1.0 parts.1.1, builds b parts.2.0 parts.2.1, units u parts.3.0 parts.3.1)
-    where
-      workers : (o : Option Text) (x : ℕ) → read_or WORKERS (number_in 1 MOST_WORKERS) o ≡ Some x → head_read (Some name.Workers) o ≡ true
-      workers None x h = refl
-      workers (Some t) x h = mapped_read item.Workers (number_in 1 MOST_WORKERS t) x h
+    go : (new : Bool) → fresh [] us ≡ new → item_plan items ≡ option_and_then (row_plan place) (ends [] (Some us))
+    go false new = rw new (none new (item_plan items) refl)
+    go true new =
+        let same = once_same us items are ((fresh_once [] us (λ k. omega arith)).0 new) in
+        rw (new, h.1) same
 
-      builds : (o : Option Text) (x : Build) → read_or Karras build_of o ≡ Some x → head_read (Some name.Build) o ≡ true
-      builds None x h = refl
-      builds (Some t) x h = mapped_read item.Build (build_of t) x h
-
-      units : (o : Option Text) (x : ℕ) → read_or UNIT (number_in 1 UNIT_MAX) o ≡ Some x → head_read (Some name.Unit) o ≡ true
-      units None x h = refl
-      units (Some t) x h = mapped_read item.Unit (number_in 1 UNIT_MAX t) x h
-
-short_read : (k : Option Name) (ts : List Text) → length ts ≤ 1 → head_read k (slice_get ts 0) ≡ true → list_all (is_read k) ts ≡ true
-short_read k [] short e = refl
-short_read k (t ∷ []) short e = let one : is_read k t ≡ true = e in rw one refl
-short_read k (t ∷ s ∷ ts) short e = absurd (omega arith)
-
-heads_read : (place : Option ℕ) (us : List Use) (plan : Plan) → ((k : Option Name) → length (texts k us) ≤ 1)
-    → plan_from place (slice_get (texts None us) 0) (slice_get (texts (Some name.Grid) us) 0) (slice_get (texts (Some name.Workers) us) 0) (slice_get (texts (Some name.Build) us) 0)
-    (slice_get (texts (Some name.Unit) us) 0) ≡ Some plan → Reads us
-heads_read place us plan short e None = short_read None (texts None us) (short None) (heads plan place (slice_get (texts None us) 0) (slice_get (texts (Some name.Grid) us) 0) (slice_get (texts (Some name.Workers) us) 0) (slice_get (texts (Some name.Build) us) 0) (slice_get (texts (Some name.Unit) us) 0) e).0
-heads_read place us plan short e (Some name.Grid) = short_read (Some name.Grid) (texts (Some name.Grid) us) (short (Some name.Grid)) (heads plan place (slice_get (texts None us) 0) (slice_get (texts (Some name.Grid) us) 0) (slice_get (texts (Some name.Workers) us) 0) (slice_get (texts (Some name.Build) us) 0) (slice_get (texts (Some name.Unit) us) 0) e).1
-heads_read place us plan short e (Some name.Workers) = short_read (Some name.Workers) (texts (Some name.Workers) us) (short (Some name.Workers)) (heads plan place (slice_get (texts None us) 0) (slice_get (texts (Some name.Grid) us) 0) (slice_get (texts (Some name.Workers) us) 0) (slice_get (texts (Some name.Build) us) 0) (slice_get (texts (Some name.Unit) us) 0) e).2
-heads_read place us plan short e (Some name.Build) = short_read (Some name.Build) (texts (Some name.Build) us) (short (Some name.Build)) (heads plan place (slice_get (texts None us) 0) (slice_get (texts (Some name.Grid) us) 0) (slice_get (texts (Some name.Workers) us) 0) (slice_get (texts (Some name.Build) us) 0) (slice_get (texts (Some name.Unit) us) 0) e).3
-heads_read place us plan short e (Some name.Unit) = short_read (Some name.Unit) (texts (Some name.Unit) us) (short (Some name.Unit)) (heads plan place (slice_get (texts None us) 0) (slice_get (texts (Some name.Grid) us) 0) (slice_get (texts (Some name.Workers) us) 0) (slice_get (texts (Some name.Build) us) 0) (slice_get (texts (Some name.Unit) us) 0) e).4
-
--- a plan of the words is given
-module _ (words : List Text) (d : NoDashes words) where
-  from_words : (plan : Plan) (o : Option (List Item)) → items_of words ≡ o → option_and_then item_plan o ≡ Some plan → plan_of words ≡ given_plan words
-  from_words plan None are e = absurd (let bad : ⊥ = cc in bad)
-  from_words plan (Some items) are e =
-      let b = back (items_of words) (cut None words) items (items_read None 0 words d) are in
-      plan_is_given words b.0 items are b.1 b.2 (is_fresh b.0 items b.2 plan e)
-
-  -- and the other way round
-  from_given : (plan : Plan) (c : Option (List Use)) → cut None words ≡ c → option_and_then (row_plan (mesh_from false 0 words)) (ends [] c) ≡ Some plan → plan_of words ≡ given_plan words
-  from_given plan None as_cut e = absurd (let bad : ⊥ = cc in bad)
-  from_given plan (Some us) as_cut e = go (fresh [] us) refl
-    where
-      go : (b : Bool) → fresh [] us ≡ b → plan_of words ≡ given_plan words
-      go false h = absurd (let no : (let none : Option Plan = None in none) ≡ Some plan = rw h at e in let bad : ⊥ = cc in bad)
-      go true h =
-          let of_rows : row_plan (mesh_from false 0 words) (rows us) ≡ Some plan = rw h at e in
-          let short : (k : Option Name) → length (texts k us) ≤ 1 = fresh_short [] us h (λ k. omega arith) in
-          let reads = heads_read (mesh_from false 0 words) us plan short (sym (row_is (mesh_from false 0 words) us) ∙ of_rows) in
-          let f = forth (items_of words) us (items_read None 0 words d ∙ ap read as_cut) (all_read us reads) in
-          plan_is_given words us f.0 f.1 as_cut f.2 h
-
-  -- the plan of the words is the plan that is given
-  pub same_plan : plan_of words ≡ given_plan words
-  same_plan = go (plan_of words) (given_plan words) refl refl
-    where
-      go : (p q : Option Plan) → plan_of words ≡ p → given_plan words ≡ q → plan_of words ≡ given_plan words
-      go None None a b = a ∙ sym b
-      go (Some plan) q a b = from_words plan (items_of words) refl a
-      go None (Some plan) a b = from_given plan (cut None words) refl b
+-- the plan of the words is the plan that is given
+pub same_plan : (words : List Text) → has_dashes words ≡ false → plan_of words ≡ given_plan words
+same_plan words plain = plans_agree (mesh_from false 0 words) (items_of words) (cut None words) (agree None 0 words plain)
