@@ -29,6 +29,12 @@ hits 8 misses 0 numbers 29 overlaps 35 work 100\n\
 triangles 8 nodes 7 height 3 cells 22\n\
 hits 8 misses 0 numbers 29 overlaps 35 work 100\n";
 
+/// The words that name the mesh, by each of the two builds.
+const BY_EITHER_BUILD: [&str; 2] = ["level.obj", "--build apetrei level.obj"];
+
+/// The same at one grid step to a unit.
+const AT_ONE_STEP: [&str; 2] = ["--unit 1 level.obj", "--unit 1 --build apetrei level.obj"];
+
 /// A box that touches the triangle's box and not the triangle, as a script line.
 const TOUCHING: &[u8] = b"box 4 4 0 9 9 0\n";
 
@@ -277,7 +283,10 @@ fn worked_scripts_are_answered_byte_for_byte(rt: HostRuntime) -> Result<(), Fail
     ];
     for (name, mesh, script, status, output) in rows {
         for piece in [1, 7, 4096] {
-            comes_to(&rt, mesh, script, &in_pieces(piece), status, output, name)?;
+            for words in BY_EITHER_BUILD {
+                let devices = in_pieces(piece);
+                words_come_to(&rt, words, mesh, script, &devices, status, output, name)?;
+            }
         }
     }
     Ok(())
@@ -286,7 +295,7 @@ fn worked_scripts_are_answered_byte_for_byte(rt: HostRuntime) -> Result<(), Fail
 #[test]
 fn words_choose_the_unit_or_are_refused(rt: HostRuntime) -> Result<(), Fail> {
     let outside = b"mesh line 1: outside the world\n";
-    let rows: [(&str, &[u8], Status, &[u8]); 14] = [
+    let rows: [(&str, &[u8], Status, &[u8]); 17] = [
         (
             "--unit 1 level.obj",
             b"v 131071 0 0\n",
@@ -311,6 +320,18 @@ fn words_choose_the_unit_or_are_refused(rt: HostRuntime) -> Result<(), Fail> {
             TRIANGLE,
             Status::Done,
             b"work 0\n",
+        ),
+        (
+            "level.obj --workers 64 --build apetrei",
+            TRIANGLE,
+            Status::Done,
+            b"work 0\n",
+        ),
+        (
+            "level.obj --build fast",
+            TRIANGLE,
+            Status::Usage,
+            b"bad command line\n",
         ),
         (
             "level.obj --workers 0",
@@ -345,6 +366,7 @@ fn words_choose_the_unit_or_are_refused(rt: HostRuntime) -> Result<(), Fail> {
             b"bad command line\n",
         ),
         ("--grid=2", TRIANGLE, Status::Done, REPORT),
+        ("--build apetrei --grid 2", TRIANGLE, Status::Done, REPORT),
         ("other.obj", TRIANGLE, Status::ReadFault, b""),
     ];
     for (line, mesh, status, output) in rows {
@@ -398,8 +420,9 @@ fn cells_and_counts_are_those_of_the_last_build(rt: HostRuntime) -> Result<(), F
     ];
     for (mesh, script, status, output) in rows {
         let devices = in_pieces(4096);
-        let words = "--unit 1 level.obj";
-        words_come_to(&rt, words, mesh, script, &devices, status, output, "cells")?;
+        for words in AT_ONE_STEP {
+            words_come_to(&rt, words, mesh, script, &devices, status, output, "cells")?;
+        }
     }
     Ok(())
 }
@@ -444,17 +467,10 @@ fn a_world_changes_between_the_lines_of_a_script(rt: HostRuntime) -> Result<(), 
     ];
     for (name, mesh, script, status, output) in rows {
         for piece in [7, 4096] {
-            let devices = in_pieces(piece);
-            words_come_to(
-                &rt,
-                "--unit 1 level.obj",
-                mesh,
-                script,
-                &devices,
-                status,
-                output,
-                name,
-            )?;
+            for words in AT_ONE_STEP {
+                let devices = in_pieces(piece);
+                words_come_to(&rt, words, mesh, script, &devices, status, output, name)?;
+            }
         }
     }
     Ok(())
@@ -800,14 +816,18 @@ fn the_large_workload_needs_no_file_and_no_script(rt: HostRuntime) -> Result<(),
 }
 
 #[test]
-fn the_large_workload_is_the_same_by_any_number_of_workers(rt: HostRuntime) -> Result<(), Fail> {
+fn the_large_workload_is_the_same_by_either_build_and_any_number_of_workers(
+    rt: HostRuntime,
+) -> Result<(), Fail> {
     let one = grid_report(&rt, rt.alloc(), 64, Build::Karras, 1, &OpenGate)
         .ok()
         .expect(&rt, "memory");
-    let seven = grid_report(&rt, rt.alloc(), 64, Build::Karras, 7, &OpenGate)
-        .ok()
-        .expect(&rt, "memory");
-    assert!(rt; one == seven, "one worker and seven");
+    for (build, workers) in [(Build::Karras, 7), (Build::Apetrei, 1), (Build::Apetrei, 7)] {
+        let other = grid_report(&rt, rt.alloc(), 64, build, workers, &OpenGate)
+            .ok()
+            .expect(&rt, "memory");
+        assert!(rt; one == other, "one worker and others");
+    }
     assert!(rt;
         one.starts_with(b"triangles 8192 nodes 8191 height "),
         "its first line"

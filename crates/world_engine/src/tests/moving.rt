@@ -267,7 +267,7 @@ fn a_thousand_moves_are_seen_by_the_next_answers(rt: HostRuntime) -> Result<(), 
     let text = scan.text(alloc)?;
     assert!(rt; text.len() <= 65_536);
     let mesh = read_mesh(alloc, &text, 1).map_err(|_| "the mesh is refused")?;
-    let mut world = World::new(&rt, alloc, mesh, Build::Karras, 4, &OpenGate).map_err(
+    let mut world = World::new(&rt, alloc, mesh, Build::Apetrei, 4, &OpenGate).map_err(
         |_| "no memory for the world",
     )?;
     let mut built = scan.boxes(alloc)?;
