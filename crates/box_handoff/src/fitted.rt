@@ -3,8 +3,8 @@
 use crate::{Packet, Tally};
 use radix_tree::Tree;
 
-/// The packets of all children: at place `s` of each list stands the one of the child on that side of the inner node
-/// whose split is `s`.
+/// The packets of the children of live inner nodes, in the order of the nodes' splits: at place `i` of each list stands
+/// the one of the child on that side of the node with the `i`-th live split. Where all leaves are live, that is `i`.
 #[derive(Debug, Drop)]
 pub struct Fitted {
     pub left: Vec<Packet>,

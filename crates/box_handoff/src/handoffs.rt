@@ -7,7 +7,8 @@ use atomic_table::Table;
 use std::alloc::Global;
 use std::snapshot::Snapshot;
 
-/// One fitting run: a word for each batch of leaves and for each inner node, and two slots for each inner node.
+/// One fitting run: a word for each batch of live leaves and for each live inner node, and two slots for each live
+/// inner node.
 ///
 /// It lends the keys and the boxes. Threads share it; each climbs with a seat of its own.
 #[derive(Drop)]

@@ -91,3 +91,6 @@ pub fn refit<R: Threads + Sync, W: Ways, G: Gate>(
     }
     Ok(fitted.tally)
 }
+
+#[cfg(test)]
+mod tests;
