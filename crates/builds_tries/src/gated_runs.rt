@@ -14,11 +14,11 @@ use world_engine::{Status, run};
 /// How often a worker looks out for the other before it goes on alone.
 const MOST_LOOKS: u32 = 500_000_000;
 
-/// A gate for two workers. Before its first batch of each build a worker says that it begins, and looks for a while
-/// whether the other has begun that build too. It waits for nobody: who looks in vain says so and goes on.
+/// A gate for two workers. Before its first batch of each fitting a worker says that it begins, and looks for a while
+/// whether the other has begun that one too. It waits for nobody: who looks in vain says so and goes on.
 #[derive(Drop)]
 struct MeetingGate {
-    /// How many builds each worker began.
+    /// How many fittings each worker began.
     began: [AtomicU64; 2],
     /// How many batches each worker went for.
     passes: [AtomicU64; 2],
@@ -35,12 +35,12 @@ impl MeetingGate {
         }
     }
 
-    /// Whether the other worker has begun so many builds, or begins them while this one looks.
-    fn meets(&self, other: usize, builds: u64) -> bool
+    /// Whether the other worker has begun so many fittings, or begins them while this one looks.
+    fn meets(&self, other: usize, fittings: u64) -> bool
         requires { other < 2 }
     {
         for _ in 0..MOST_LOOKS {
-            if builds <= self.began[other].load(Ordering::SeqCst) {
+            if fittings <= self.began[other].load(Ordering::SeqCst) {
                 return true;
             }
         }
@@ -57,10 +57,10 @@ impl Gate for MeetingGate {
         let own = worker as usize;
         self.passes[own].fetch_add(1, Ordering::SeqCst);
         if turn == 0 {
-            let builds = self.began[own]
+            let fittings = self.began[own]
                 .fetch_add(1, Ordering::SeqCst)
                 .wrapping_add(1);
-            if !self.meets(1 - own, builds) {
+            if !self.meets(1 - own, fittings) {
                 self.alone.fetch_add(1, Ordering::SeqCst);
             }
         }
@@ -95,7 +95,8 @@ fn written<R: Threads + Sync + Abort + AllocGlobal, G: Gate>(
     Ok(out.bytes().to_vec(alloc)?)
 }
 
-/// Two workers at the meeting gate, over 131,072 triangles: 2,048 batches at the opening and at the rebuild.
+/// Two workers at the meeting gate, over 131,072 triangles: 2,048 batches at the opening and at the rebuild, and one
+/// between them, when the 23 triangles that eight moves touch are fitted.
 fn two_meet<R: Threads + Sync + Abort + AllocGlobal>(rt: &R, line: &str) -> Result<Vec<u8>, Fail> {
     let gate = MeetingGate::new();
     let text = written(rt, line, &gate)?;
@@ -107,12 +108,12 @@ fn two_meet<R: Threads + Sync + Abort + AllocGlobal>(rt: &R, line: &str) -> Resu
     for worker in 0..2 {
         assert_eq!(rt;
             gate.began[worker].load(Ordering::SeqCst),
-            2,
-            "builds of {line}"
+            3,
+            "fittings of {line}"
         );
         assert_eq!(rt;
             gate.passes[worker].load(Ordering::SeqCst),
-            4096,
+            4097,
             "passes of {line}"
         );
     }
@@ -120,7 +121,7 @@ fn two_meet<R: Threads + Sync + Abort + AllocGlobal>(rt: &R, line: &str) -> Resu
 }
 
 #[test]
-fn two_workers_work_at_the_same_time_in_each_build_of_a_run(rt: HostRuntime) -> Result<(), Fail> {
+fn two_workers_work_at_the_same_time_in_each_fitting_of_a_run(rt: HostRuntime) -> Result<(), Fail> {
     let alone = two_meet(&rt, "--grid 256 --workers 2 --build karras")?;
     let upward = two_meet(&rt, "--grid 256 --workers 2 --build apetrei")?;
     assert!(rt; alone == upward);
