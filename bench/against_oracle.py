@@ -6,8 +6,8 @@
 1. Worked rows, whose replies were found by hand: the oracle is compared with them first, then the program; lists of words
    of the command line; ends that are no answer, as a mesh that is not there, by both as programs; and the large workload,
    `--grid N`.
-2. Real files of other people's tools, in ../shared/objs: at 64 steps to a unit, at the largest unit at which the file fits,
-   and at the smallest; skipped with a message where the folder is missing.
+2. Real files of other people's tools, in FOLDER: at 64 steps to a unit, at the largest unit at which the file fits, and at
+   the smallest; skipped with a message where the folder is missing.
 3. Random small meshes and scripts from a fixed seed, faulty ones among them, by both builds and several counts of workers;
    some of the meshes also among so many rows that are passed over that the program reads the text in parts.
 
@@ -328,7 +328,9 @@ def compare_rows(program):
 
 # ------------------------------------------------------------------------------------------------ real files
 
-# What their folder's list says of each: triangles and groups; or by hand, the line and the reason that refuse it.
+# They are of packages of Debian 12: of assimp-testmodels all but the cornell box (embree-tools), fcl_rob (fcl, source) and
+# vertex_colours (tinyobjloader, source). What is known of each: triangles and groups; or by hand, the line and the reason
+# that refuse it.
 REAL = {
     "spider.obj": (1368, 19), "wuson.obj": (3732, 1), "max2obj.obj": (2710, 55), "lightwave_66gon.obj": (64, 1),
     "blender261.obj": (256, 1), "utf16.obj": (0, 0), "cornell_box.obj": (34, 7), "fcl_rob.obj": (216, 1),
@@ -568,7 +570,7 @@ def compare_long(program, chance, count):
 def main():
     parser = argparse.ArgumentParser(description="Compares the program with the oracle.")
     parser.add_argument("--program", default=os.path.join(TOP, "crates", "world_main", "out", "world_main"))
-    parser.add_argument("--files", default=OBJS, metavar="FOLDER", help="of the real files, default ../shared/objs")
+    parser.add_argument("--files", default=OBJS, metavar="FOLDER", help="of the real files")
     parser.add_argument("--random", type=int, default=1000, metavar="COUNT", help="how many random meshes")
     parser.add_argument("--long", type=int, default=12, metavar="COUNT", help="how many long ones")
     parser.add_argument("--seed", type=int, default=1)
