@@ -1,5 +1,5 @@
 -- An index when its boxes, its tree or its list are made anew, and the work that it keeps.
-use Rattle.std.proofs.Common.{◌≡◌, ◌∙◌, ℕ, ap, sym, subst, refl, List, length}
+use Rattle.std.proofs.Common.{◌≡◌, ◌∙◌, ℕ, ap, sym, subst, refl, List, [], length}
 use Rattle.std.specs.Prelude.{IfSome, Option, Vec}
 use Rattle.std.specs.declared.alloc.Global.{Global}
 use Rattle.fixed_box.specs.declared.shapes.Point.{Point}
@@ -135,3 +135,16 @@ module _ (index : Index) (now : List Point) (faces : List Face) (old : IsIndex i
         fans = old.fans;
         work = old.work;
       })
+
+  -- with another box whose work is not counted yet, where no vertex is marked
+  pub box_asked : (around : Box3) → index.marks.moved ≡ [] →
+      IsIndex (record index { work = Uncounted around }) now faces
+  box_asked around still =
+      let fitted = old.fitted still in
+      fitted_index (record index { work = Uncounted around }) now faces old.keys old.triangles old.vertices (record {
+        each = fitted.each;
+        nodes = fitted.nodes;
+        fits = fitted.fits;
+        list = fitted.list;
+        leaves = fitted.leaves;
+      }) old.fans old.ways
