@@ -42,7 +42,13 @@ module _ (index : Index) (now : List Point) (faces : List Face) (old : IsIndex i
     right = λ t lt still. old.right t lt (λ v among. still v (kept v among))
         ∙ sym (ap tri_box (tri_stays now p to (face_at faces t) (still p marked)));
     fitted = λ empty. none_among marks.moved p _ empty marked;
-    were = old.were;
+    were = record {
+      before = old.were.before;
+      count = old.were.count;
+      tree = old.were.tree;
+      list = old.were.list;
+      leaves = old.were.leaves;
+    };
     ways = old.ways;
     fans = subst (λ n. IfSome index.fans (λ fans. AreFans fans faces n)) (sym (length-set now p to)) old.fans;
     work = old.work;
