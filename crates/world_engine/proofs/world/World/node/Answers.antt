@@ -6,7 +6,7 @@ use Rattle.world_engine.proofs.NodeCounts.{length-table, past_is_refused, free_a
 use Rattle.world_engine.proofs.world.World.node.Goals as goal
 
 pub returns-then-nodes-number-clause-reply : goal.returns-then-nodes-number-clause-reply
-returns-then-nodes-number-clause-reply c =
+returns-then-nodes-number-clause-reply g c =
     let world = c.args.self.now in
     let count = ap length c.nodes.ensures.nodes
     ∙ length-table c.self.inside.index.tree world c.nodes.ensures.table
@@ -14,13 +14,13 @@ returns-then-nodes-number-clause-reply c =
     past_is_refused (table world) c.args.number (omega (arith, count, c.if-nodes-number.true))
 
 pub mend-requires-clause-index : goal.mend-requires-clause-index
-mend-requires-clause-index c =
+mend-requires-clause-index g c κs within =
     subst (λ faces. IsIndex c.self.inside.index c.deref.result.now faces) (sym c.faces.ensures.faces)
     (subst (λ points. IsIndex c.self.inside.index points c.self.inside.mesh.faces) (sym c.deref.ensures.value)
     c.self.invariant.index)
 
 pub returns-in_err-mend-clause-free : goal.returns-in_err-mend-clause-free
-returns-in_err-mend-clause-free c = λ free.
+returns-in_err-mend-clause-free g c = λ free.
     let world = c.args.self.now in
     let count = ap length c.nodes.ensures.nodes
     ∙ length-table c.self.inside.index.tree world c.nodes.ensures.table
