@@ -65,24 +65,49 @@ pub gathered : (us : List Use) (items : List Item) → AreRead us items → IsGa
 gathered [] [] h = record { meshes = tt; grids = tt; workers = tt; builds = tt; units = tt }
 gathered ((None, text) ∷ us) (item.Mesh place ∷ items) h =
     let later = gathered us items h.1 in
-    record { meshes = (h.0, later.meshes); grids = later.grids; workers = later.workers; builds = later.builds;
-      units = later.units }
+    record {
+      meshes = (h.0, later.meshes);
+      grids = later.grids;
+      workers = later.workers;
+      builds = later.builds;
+      units = later.units;
+    }
 gathered ((Some name.Grid, text) ∷ us) (item.Grid squares ∷ items) h =
     let later = gathered us items h.1 in
-    record { meshes = later.meshes; grids = (h.0, later.grids); workers = later.workers; builds = later.builds;
-      units = later.units }
+    record {
+      meshes = later.meshes;
+      grids = (h.0, later.grids);
+      workers = later.workers;
+      builds = later.builds;
+      units = later.units;
+    }
 gathered ((Some name.Workers, text) ∷ us) (item.Workers count ∷ items) h =
     let later = gathered us items h.1 in
-    record { meshes = later.meshes; grids = later.grids; workers = (h.0, later.workers); builds = later.builds;
-      units = later.units }
+    record {
+      meshes = later.meshes;
+      grids = later.grids;
+      workers = (h.0, later.workers);
+      builds = later.builds;
+      units = later.units;
+    }
 gathered ((Some name.Build, text) ∷ us) (item.Build named ∷ items) h =
     let later = gathered us items h.1 in
-    record { meshes = later.meshes; grids = later.grids; workers = later.workers; builds = (h.0, later.builds);
-      units = later.units }
+    record {
+      meshes = later.meshes;
+      grids = later.grids;
+      workers = later.workers;
+      builds = (h.0, later.builds);
+      units = later.units;
+    }
 gathered ((Some name.Unit, text) ∷ us) (item.Unit steps ∷ items) h =
     let later = gathered us items h.1 in
-    record { meshes = later.meshes; grids = later.grids; workers = later.workers; builds = later.builds;
-      units = (h.0, later.units) }
+    record {
+      meshes = later.meshes;
+      grids = later.grids;
+      workers = later.workers;
+      builds = later.builds;
+      units = (h.0, later.units);
+    }
 gathered [] (i ∷ items) h = absurd h
 gathered (u ∷ us) [] h = absurd h
 gathered (u ∷ us) (i ∷ items) h = absurd h.0

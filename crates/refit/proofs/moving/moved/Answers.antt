@@ -28,7 +28,7 @@ returns-clause-rest c = record {
   fitted = c.requires.fitted;
   same = λ p lt still. elim (c.loop-position.invariant.each p
       (omega (arith, lt, c.loop-position-test.false, ap length c.keys.ensures.keys))) [
-    | inl listed ↦ absurd (false≢true (sym still ∙ listed_live c.loop-position.moved.items p listed))
-    | inr same ↦ same
-  ];
+        | inl listed ↦ absurd (false≢true (sym still ∙ listed_live c.loop-position.moved.items p listed))
+        | inr same ↦ same
+      ];
 }
