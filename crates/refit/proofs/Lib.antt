@@ -1,4 +1,9 @@
+pub mod Listed
 pub mod SameShapes
 pub mod Subtrees
+pub mod Parting
+pub mod Nesting
+pub mod StaleParts
+pub mod StaleTrees
 pub mod FittedRows
 pub mod WholeTrees

@@ -1,2 +1,4 @@
+pub mod Listing
 pub mod Shapes
+pub mod Stale
 pub mod Subtrees

@@ -4,8 +4,10 @@
 //! built anew.
 #![tactic(auto)]
 
+mod moving;
 mod refitting;
 
+pub use moving::moved;
 pub use refitting::refit;
 
 #[cfg(test)]

@@ -1,6 +1,9 @@
 //! Trees worked by hand before and after their boxes moved, and one of many boxes against a scan.
 
-use crate::refit;
+ghost use Rattle.std.specs.Prelude.{IfOk};
+ghost use Rattle.radix_tree.specs.Fit.{IsFitted};
+
+use crate::{moved, refit};
 use fixed_box::{Box3, Point, in_world};
 use morton_key::order;
 use outside::Memory;
@@ -28,21 +31,26 @@ fn node(first: u32, last: u32, split: u32, fit: Box3) -> Node {
 }
 
 /// The tree that a build over these boxes makes.
-fn built<R: Abort>(rt: &R, alloc: Global, boxes: &[Box3]) -> Result<Tree, Memory> {
+fn built<R: Abort>(rt: &R, alloc: Global, boxes: &[Box3]) -> Result<Tree, Memory>
+    ensures { IfOk result (λ tree. IsFitted tree boxes.now) }
+{
     assert!(rt; boxes.len() <= 1000);
     assert!(rt; boxes.iter().all(|b| in_world(&b.lo) && in_world(&b.hi)));
     plain(alloc, order(alloc, boxes)?, boxes)
 }
 
-/// Refits the tree to as many boxes as it has keys.
+/// Builds a tree over some boxes, fits it to others, and answers it with the positions of those that moved.
 fn refitted<R: Abort>(
     rt: &R,
     alloc: Global,
-    tree: &mut Tree,
+    before: &[Box3],
     boxes: &[Box3],
-) -> Result<(), Memory> {
-    assert!(rt; boxes.len() == tree.keys().len());
-    refit(alloc, tree, boxes)
+) -> Result<(Tree, Vec<u32>), Fail> {
+    assert!(rt; boxes.len() == before.len());
+    let mut tree = built(rt, alloc, before)?;
+    let moved = moved(alloc, &tree, before, boxes)?;
+    refit(&mut tree, boxes, &moved);
+    Ok((tree, moved))
 }
 
 #[test]
@@ -50,37 +58,44 @@ fn a_triangle_that_moved_far_keeps_its_place_in_the_tree(rt: HostRuntime) -> Res
     let first = around(at(0, 0, 0), at(4, 4, 0));
     let second = around(at(100, 0, 0), at(104, 4, 0));
     let third = around(at(200, 0, 0), at(204, 4, 0));
-    let moved = around(at(300, 0, 0), at(304, 4, 0));
-    let mut tree = built(&rt, rt.alloc(), &[first, second, third])?;
-    assert_eq!(rt;
-        tree.nodes().get(1).copied(),
-        Some(node(0, 1, 0, around(at(0, 0, 0), at(104, 4, 0))))
-    );
-    refitted(&rt, rt.alloc(), &mut tree, &[moved, second, third])?;
-    let expected = [
-        node(0, 2, 1, around(at(100, 0, 0), at(304, 4, 0))),
-        node(0, 1, 0, around(at(100, 0, 0), at(304, 4, 0))),
-    ];
-    assert_eq!(rt; tree.nodes(), expected.as_slice());
-    refitted(&rt, rt.alloc(), &mut tree, &[first, second, third])?;
+    let far = around(at(300, 0, 0), at(304, 4, 0));
+    let still = refitted(
+        &rt,
+        rt.alloc(),
+        &[first, second, third],
+        &[first, second, third],
+    )?;
     let expected = [
         node(0, 2, 1, around(at(0, 0, 0), at(204, 4, 0))),
         node(0, 1, 0, around(at(0, 0, 0), at(104, 4, 0))),
     ];
-    assert_eq!(rt; tree.nodes(), expected.as_slice());
+    assert_eq!(rt; still.0.nodes(), expected.as_slice());
+    assert_eq!(rt; still.1.len(), 0);
+    let moved = refitted(
+        &rt,
+        rt.alloc(),
+        &[first, second, third],
+        &[far, second, third],
+    )?;
+    let expected = [
+        node(0, 2, 1, around(at(100, 0, 0), at(304, 4, 0))),
+        node(0, 1, 0, around(at(100, 0, 0), at(304, 4, 0))),
+    ];
+    assert_eq!(rt; moved.0.nodes(), expected.as_slice());
+    assert_eq!(rt; moved.1.as_slice(), [0_u32].as_slice());
     Ok(())
 }
 
 #[test]
 fn no_triangle_and_one_have_nothing_to_fit(rt: HostRuntime) -> Result<(), Fail> {
     let one = around(at(1, 2, 3), at(4, 5, 6));
-    let mut none = built(&rt, rt.alloc(), &[])?;
-    refitted(&rt, rt.alloc(), &mut none, &[])?;
-    assert_eq!(rt; none.nodes().len(), 0);
-    let mut single = built(&rt, rt.alloc(), &[one])?;
-    refitted(&rt, rt.alloc(), &mut single, &[one])?;
-    assert_eq!(rt; single.nodes().len(), 0);
-    assert_eq!(rt; single.keys().len(), 1);
+    let other = around(at(1, 2, 3), at(9, 5, 6));
+    let none = refitted(&rt, rt.alloc(), &[], &[])?;
+    assert_eq!(rt; none.0.nodes().len(), 0);
+    let single = refitted(&rt, rt.alloc(), &[one], &[other])?;
+    assert_eq!(rt; single.0.nodes().len(), 0);
+    assert_eq!(rt; single.0.keys().len(), 1);
+    assert_eq!(rt; single.1.as_slice(), [0_u32].as_slice());
     Ok(())
 }
 
@@ -138,26 +153,47 @@ fn scanned(tree: &Tree, boxes: &[Box3], node: &Node) -> Option<(Point, Point)> {
     Some((lo, hi))
 }
 
+/// The boxes of before, but for each one at a multiple of `every`, which is taken from those of after.
+fn some_moved(
+    alloc: Global,
+    before: &[Box3],
+    after: &[Box3],
+    every: usize,
+) -> Result<Vec<Box3>, AllocError> {
+    let mut boxes = Vec::with_capacity(alloc, before.len())?;
+    for (i, (old, new)) in before.iter().zip(after).enumerate() {
+        boxes.push(if every != 0 && i % every == 0 {
+            *new
+        } else {
+            *old
+        })?;
+    }
+    Ok(boxes)
+}
+
 #[test]
-fn two_hundred_boxes_that_all_moved_are_fitted_as_a_scan_finds(
+fn two_hundred_boxes_of_which_some_or_all_moved_are_fitted_as_a_scan_finds(
     rt: HostRuntime,
 ) -> Result<(), Fail> {
     let before = scattered(rt.alloc(), 200, 2026)?;
     let after = scattered(rt.alloc(), 200, 731)?;
     let fresh = built(&rt, rt.alloc(), &before)?;
-    let mut tree = built(&rt, rt.alloc(), &before)?;
-    refitted(&rt, rt.alloc(), &mut tree, &after)?;
-    assert!(rt; tree.keys() == fresh.keys());
-    assert_eq!(rt; tree.nodes().len(), 199);
-    for (node, old) in tree.nodes().iter().zip(fresh.nodes()) {
-        assert_eq!(rt;
-            (node.first, node.last, node.split),
-            (old.first, old.last, old.split)
-        );
-        assert_eq!(rt;
-            Some((node.fit.lo, node.fit.hi)),
-            scanned(&tree, &after, node)
-        );
+    for (every, count) in [(1, 200), (2, 100), (7, 29), (150, 2), (0, 0)] {
+        let boxes = some_moved(rt.alloc(), &before, &after, every)?;
+        let (tree, moved) = refitted(&rt, rt.alloc(), &before, &boxes)?;
+        assert_eq!(rt; moved.len(), count);
+        assert!(rt; tree.keys() == fresh.keys());
+        assert_eq!(rt; tree.nodes().len(), 199);
+        for (node, old) in tree.nodes().iter().zip(fresh.nodes()) {
+            assert_eq!(rt;
+                (node.first, node.last, node.split),
+                (old.first, old.last, old.split)
+            );
+            assert_eq!(rt;
+                Some((node.fit.lo, node.fit.hi)),
+                scanned(&tree, &boxes, node)
+            );
+        }
     }
     Ok(())
 }

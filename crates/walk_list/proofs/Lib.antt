@@ -13,4 +13,3 @@ pub mod Mended
 pub mod Halving
 pub mod Moved
 pub mod Refits
-pub mod Listed

@@ -8,6 +8,7 @@ use Rattle.fixed_box.specs.declared.shapes.Box3.{Box3}
 use Rattle.fixed_box.specs.Boxes as box
 use Rattle.fixed_box.specs.World.{BoxInWorld}
 use Rattle.morton_key.specs.Keys.{key_at, tri_at}
+use Rattle.morton_key.specs.declared.keys.Key.{Key}
 use Rattle.radix_tree.specs.Fit.{box_of_triangle}
 use Rattle.traversal.proofs.Approaches.{read_in_world}
 use Rattle.walk_list.specs.declared.records.Leaf.{Leaf}
@@ -196,3 +197,24 @@ module _ (f : Contents) (boxes : List Box3) (many : IsOverAsMany f boxes) where
 
   pub as_many_few : length f.leaves < 2 ^ 32
   as_many_few = omega (arith, count_was, many.over.lawful.few)
+
+-- a list over boxes whose triangles stand where the keys' do is the list of the keys
+pub same_keys : (f g : Contents) (keys : List Key) (before boxes : List Box3) →
+    f.leaves ≡ leaves_of keys before → length boxes ≡ length keys → IsOver g boxes →
+    ((p : ℕ) → (leaf_at g.leaves p).number ≡ (leaf_at f.leaves p).number) → g.leaves ≡ leaves_of keys boxes
+unfolding leaf_at leaves_of leaf_of key_at
+same_keys f g keys before boxes was count over numbers =
+    let now = over.keys in
+    let long : length (leaves_of now boxes) ≡ length (leaves_of keys boxes) =
+    omega (arith, length-map now (leaf_of boxes), length-map keys (leaf_of boxes), count, over.count) in
+    over.leaves ∙ ext_get_or no_leaf (leaves_of now boxes) (leaves_of keys boxes) long (λ p lt.
+    let here : p < length now = omega (arith, lt, length-map now (leaf_of boxes)) in
+    let there : p < length keys = omega (arith, here, count, over.count) in
+    let no_key : Key = record { code = 0; tri = 0 } in
+    let of_now = get_or-map (leaf_of boxes) now p no_key no_leaf here in
+    let of_keys = get_or-map (leaf_of boxes) keys p no_key no_leaf there in
+    let of_before = get_or-map (leaf_of before) keys p no_key no_leaf there in
+    let same : (get_or now p no_key).tri ≡ (get_or keys p no_key).tri =
+    sym (ap (λ (l : Leaf). l.number) (ap (λ ls. get_or ls p no_leaf) over.leaves ∙ of_now)) ∙ (numbers p
+    ∙ ap (λ (l : Leaf). l.number) (ap (λ ls. get_or ls p no_leaf) was ∙ of_before)) in
+    of_now ∙ (ap (λ n. record { fit = box_of_triangle boxes n; number = n }) same ∙ sym of_keys))

@@ -1,13 +1,13 @@
 -- Leaves that moved, and records whose boxes are good but for those with a moved leaf below.
 -- No public clause cites this module.
-use Rattle.std.specs.Prelude.{ℕ, ◌≡◌, ◌<◌, ◌≤◌, ◌⊎◌, List, length, slice_index, Contains, All}
-use Rattle.std.specs.List.Sorted.{IsNonDecreasing}
+use Rattle.std.specs.Prelude.{ℕ, ◌≡◌, ◌<◌, ◌≤◌, ◌⊎◌, List, length, slice_index, Contains}
 use Rattle.fixed_box.specs.declared.shapes.Box3.{Box3}
 use Rattle.fixed_box.specs.World.{BoxInWorld}
 use Rattle.walk_list.specs.declared.records.Leaf.{Leaf}
 use Rattle.walk_list.specs.Leaves.{leaf_at}
 use Rattle.walk_list.specs.Covering.{Bounds}
 use Rattle.walk_list.specs.Moving.{IsFitTo}
+use Rattle.refit.specs.Listing.{ListsBut}
 
 -- one of the moved positions is from a up to b, b left out
 abbrev pub IsMovedBetween : List ℕ → ℕ → ℕ → Type 0
@@ -29,11 +29,8 @@ pub record HaveBoxes (leaves : List Leaf) (boxes : List Box3) : Type 0 where
 
 -- of the leaves at positions below a number, those listed have not the boxes of their triangles, and the others have
 -- them
-pub record ListsMoved (leaves : List Leaf) (boxes : List Box3) (upto : ℕ) (moved : List ℕ) : Type 0 where
-  pub rising : IsNonDecreasing moved
-  pub below : All (λ p. p < upto) moved
-  pub alone : All (λ p. IsFitTo boxes (leaf_at leaves p) → ⊥) moved
-  pub each : (p : ℕ) → p < upto → Contains moved p ⊎ IsFitTo boxes (leaf_at leaves p)
+abbrev pub ListsMoved : List Leaf → List Box3 → ℕ → List ℕ → Type 0
+ListsMoved leaves boxes = ListsBut (λ p. IsFitTo boxes (leaf_at leaves p))
 
 -- the leaves at the moved positions were given their boxes, and nothing else changed
 pub record Moves (boxes : List Box3) (moved : List ℕ) (before after : List Leaf) : Type 0 where

@@ -133,7 +133,9 @@ fn records_of(alloc: Global, t: &Tree, leaves: &[Leaf]) -> Result<Vec<Record>, A
 pub fn flatten(alloc: Global, t: &Tree, boxes: &[Box3]) -> Result<WalkList, Memory>
     requires fitted { IsFitted t.now boxes.now }
     requires world { All BoxInWorld boxes.now }
-    ensures { IfOk result (λ list. IsOver list boxes.now) }
+    ensures over { IfOk result (λ list. IsOver list boxes.now) }
+    // the triangle at a position is that of the tree's key there
+    ensures leaves { IfOk result (λ list. list.leaves ≡ leaves_of t.now.keys boxes.now) }
 {
     let Ok(leaves) = leaves_of(alloc, t.keys(), boxes) else {
         return Err(Memory);

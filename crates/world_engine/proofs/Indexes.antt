@@ -10,7 +10,7 @@ use Rattle.radix_tree.specs.Table.{Contents}
 use Rattle.radix_tree.specs.Fit.{IsFitted, table_of}
 use Rattle.walk_list.specs.Lists as lists
 use Rattle.walk_list.specs.Lists.{IsOver}
-use Rattle.walk_list.specs.Moving.{IsOverAsMany}
+use Rattle.walk_list.specs.Leaves.{leaves_of}
 use Rattle.world_engine.specs.declared.index.Index.{Index}
 use Rattle.world_engine.specs.declared.fans.Fans.{Fans}
 use Rattle.world_engine.specs.declared.last_work.LastWork.{LastWork}
@@ -18,7 +18,7 @@ use Rattle.world_engine.specs.declared.last_work.LastWork.TheVariants.{Counted, 
 use Rattle.world_engine.specs.Worlds.{boxes_at}
 use Rattle.world_engine.specs.Marks.{Marked}
 use Rattle.world_engine.specs.Fans.{AreFans}
-use Rattle.world_engine.specs.Kept.{IsIndex, IsFittedTo, IsCountable}
+use Rattle.world_engine.specs.Kept.{IsIndex, IsFittedTo, IsCountable, WereFitted}
 use Rattle.world_engine.proofs.MendedBoxes.{length-boxes_at, right_in_list}
 
 -- over boxes that the tree is fitted to, any work can be counted
@@ -26,9 +26,15 @@ countable : (work : LastWork) (tree : Contents) (boxes : List Box3) → IsFitted
 countable (Counted count) tree boxes fits = tt
 countable (Uncounted around) tree boxes fits = fits
 
--- a list over boxes is over as many as these
-as_many : (list : lists.Contents) (boxes : List Box3) → IsOver list boxes → IsOverAsMany list boxes
-as_many list boxes over = record { before = boxes; over = over; count = refl }
+-- what is fitted to the boxes now
+now_fitted : (index : Index) (now : List Point) (faces : List Face) → IsFittedTo index now faces → WereFitted index
+now_fitted index now faces fitted = record {
+  before = index.boxes.items;
+  count = refl;
+  tree = fitted.fits;
+  list = fitted.list;
+  leaves = fitted.leaves;
+}
 
 -- an index that is fitted, whatever is marked
 pub fitted_index : (index : Index) (now : List Point) (faces : List Face) →
@@ -42,7 +48,7 @@ fitted_index index now faces keys triangles vertices fitted fans = record {
   vertices = vertices;
   right = λ t lt still. right_in_list now faces index.boxes.items t lt fitted.each;
   fitted = λ still. fitted;
-  list = as_many index.list index.boxes.items fitted.list;
+  were = now_fitted index now faces fitted;
   fans = fans;
   work = countable index.work index.tree index.boxes.items fitted.fits;
 }
@@ -63,11 +69,15 @@ module _ (index : Index) (now : List Point) (faces : List Face) (old : IsIndex i
       nodes = (old.fitted still).nodes;
       fits = subst (IsFitted index.tree) ((old.fitted still).each ∙ sym made) (old.fitted still).fits;
       list = subst (IsOver index.list) ((old.fitted still).each ∙ sym made) (old.fitted still).list;
+      leaves = (old.fitted still).leaves
+          ∙ ap (leaves_of index.tree.keys) ((old.fitted still).each ∙ sym made);
     };
-    list = record {
-      before = old.list.before;
-      over = old.list.over;
-      count = ap length made ∙ (length-boxes_at now faces ∙ (sym old.boxes ∙ old.list.count));
+    were = record {
+      before = old.were.before;
+      count = ap length made ∙ (length-boxes_at now faces ∙ (sym old.boxes ∙ old.were.count));
+      tree = old.were.tree;
+      list = old.were.list;
+      leaves = old.were.leaves;
     };
     fans = chained;
     work = tt;
@@ -77,9 +87,10 @@ module _ (index : Index) (now : List Point) (faces : List Face) (old : IsIndex i
   pub tree_fitted : (boxes : List Box3) (tree : Contents) (list : lists.Contents) (marks : Marked) →
       index.boxes.items ≡ boxes_at now faces → boxes ≡ index.boxes.items → tree.keys ≡ index.tree.keys →
       tree.nodes ≡ table_of index.tree.keys boxes → IsFitted tree boxes → IsOver list index.boxes.items →
+      list.leaves ≡ leaves_of index.tree.keys index.boxes.items →
       marks.vertices ≡ index.marks.vertices →
       IsIndex (record index { tree = tree; list = list; marks = marks }) now faces
-  tree_fitted boxes tree list marks made same keys nodes fits over vertices =
+  tree_fitted boxes tree list marks made same keys nodes fits over leaves vertices =
       fitted_index (record index { tree = tree; list = list; marks = marks }) now faces (keys ∙ old.keys)
       (ap length keys ∙ old.triangles) (vertices ∙ old.vertices) (record {
         each = made;
@@ -87,4 +98,5 @@ module _ (index : Index) (now : List Point) (faces : List Face) (old : IsIndex i
             ∙ ap (table_of (order_of (boxes_at index.built.value.items faces))) (same ∙ made));
         fits = subst (IsFitted tree) same fits;
         list = over;
+        leaves = leaves ∙ ap (λ ks. leaves_of ks index.boxes.items) (sym keys);
       }) old.fans

@@ -7,6 +7,7 @@ pub mod FanLaws
 pub mod Marking
 pub mod MendedBoxes
 pub mod Indexes
+pub mod Standing
 pub mod MovedVertices
 pub mod GroupCounts
 pub mod OpenedWords

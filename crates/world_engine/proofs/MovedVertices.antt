@@ -42,7 +42,7 @@ module _ (index : Index) (now : List Point) (faces : List Face) (old : IsIndex i
     right = λ t lt still. old.right t lt (λ v among. still v (kept v among))
         ∙ sym (ap tri_box (tri_stays now p to (face_at faces t) (still p marked)));
     fitted = λ empty. none_among marks.moved p _ empty marked;
-    list = old.list;
+    were = old.were;
     fans = subst (λ n. IfSome index.fans (λ fans. AreFans fans faces n)) (sym (length-set now p to)) old.fans;
     work = old.work;
   }

@@ -5,6 +5,7 @@ use Rattle.fixed_box.specs.Extent.{tri_box}
 use Rattle.fixed_box.specs.declared.shapes.Point.{Point}
 use Rattle.fixed_box.specs.declared.shapes.Box3.{Box3}
 use Rattle.fixed_box.specs.World.{InWorld}
+use Rattle.command_line.specs.declared.limits.TheConstants.{MOST_WORKERS}
 use Rattle.obj_text.specs.Meshes.{MeshLists, IsFaceOf}
 use Rattle.obj_text.specs.declared.face.Face.{Face}
 use Rattle.obj_text.specs.declared.limits.TheConstants.{MOST_POINTS}
@@ -14,7 +15,7 @@ use Rattle.radix_tree.specs.Table.{Contents, no_box}
 use Rattle.radix_tree.specs.Fit.{IsFitted, table_of}
 use Rattle.traversal.specs.Overlaps.{work_of}
 use Rattle.walk_list.specs.Lists.{IsOver}
-use Rattle.walk_list.specs.Moving.{IsOverAsMany}
+use Rattle.walk_list.specs.Leaves.{leaves_of}
 use Rattle.world_engine.specs.declared.index.Index.{Index}
 use Rattle.world_engine.specs.declared.last_work.LastWork.{LastWork}
 use Rattle.world_engine.specs.declared.last_work.LastWork.TheVariants.{Counted, Uncounted}
@@ -53,6 +54,16 @@ pub record IsFittedTo (index : Index) (now : List Point) (faces : List Face) : T
   pub nodes : index.tree.nodes ≡ table_of (order_of (boxes_at index.built.value.items faces)) (boxes_at now faces)
   pub fits : IsFitted index.tree index.boxes.items
   pub list : IsOver index.list index.boxes.items
+  pub leaves : index.list.leaves ≡ leaves_of index.tree.keys index.boxes.items
+
+-- the tree is fitted to as many boxes as there are now, and the list is that of its triangles over the same: these are
+-- the boxes now, or those before vertices were moved
+pub record WereFitted (index : Index) : Type 0 where
+  pub before : List Box3
+  pub count : length index.boxes.items ≡ length before
+  pub tree : IsFitted index.tree before
+  pub list : IsOver index.list before
+  pub leaves : index.list.leaves ≡ leaves_of index.tree.keys before
 
 -- a box and a key for each face, the box right where no corner is marked as moved; a tree over the order of the points
 -- of the build and a list of as many triangles, both fitted where no vertex is marked; the chains of triangles at the
@@ -65,15 +76,17 @@ pub record IsIndex (index : Index) (now : List Point) (faces : List Face) : Type
   pub right : (t : ℕ) → t < length faces → IsStill index.marks.moved (face_at faces t) →
       IsRight now faces index.boxes.items t
   pub fitted : index.marks.moved ≡ [] → IsFittedTo index now faces
-  pub list : IsOverAsMany index.list index.boxes.items
+  pub were : WereFitted index
   pub fans : IfSome index.fans (λ fans. AreFans fans faces (length now))
   pub work : IsCountable index.work index.tree index.boxes.items
 
--- faces over points of the world, and an index over them, in which no vertex is marked where none was moved since the
--- world was opened, refitted or built anew
-pub record IsKept (mesh : MeshLists) (now : List Point) (kept : Index) (at_rest : Bool) : Type 0 where
+-- faces over points of the world, a count of workers, and an index over the faces, in which no vertex is marked where
+-- none was moved since the world was opened, refitted or built anew
+pub record IsKept (mesh : MeshLists) (now : List Point) (workers : ℕ) (kept : Index) (at_rest : Bool) : Type 0 where
   pub in_world : All InWorld now
   pub few : length now ≤ MOST_POINTS
   pub named : All (IsFaceOf (length now)) mesh.faces
+  pub some_workers : 1 ≤ workers
+  pub few_workers : workers ≤ MOST_WORKERS
   pub index : IsIndex kept now mesh.faces
   pub settled : at_rest ≡ true → kept.marks.moved ≡ []

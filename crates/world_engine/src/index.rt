@@ -9,15 +9,17 @@ ghost use Rattle.world_engine.specs.Worlds.{boxes_at};
 ghost use Rattle.world_engine.specs.Kept.{IsIndex, IsCountable, last_work};
 ghost use Rattle.world_engine.specs.declared.last_work.LastWork.{LastWork};
 
+use crate::builds::tree_of;
 use crate::corners::boxes_of;
 use crate::fans::Fans;
 use crate::last_work::LastWork;
 use crate::marks::Marks;
 use crate::mending::fit_moved;
+use command_line::{Build, MOST_WORKERS};
 use fixed_box::{Box3, Point};
-use karras_build::{order_by_threads, tree_by_threads};
+use karras_build::order_by_threads;
 use obj_text::{Face, MOST_FACES};
-use outside::Memory;
+use outside::{Gate, Memory};
 use radix_tree::Tree;
 use refit::refit;
 use std::alloc::Global;
@@ -44,16 +46,22 @@ pub struct Index {
 }
 
 impl Index {
-    /// The index of these points, by as many threads as it is worth.
-    pub fn build<R: Threads + Sync>(
+    /// The index of these points: the tree by the build that is named, fitted by so many workers, who pass the gate; all
+    /// else by as many threads as it is worth.
+    pub fn build<R: Threads + Sync, G: Gate>(
         rt: &R,
         alloc: Global,
         points: &Vec<Point>,
         faces: &[Face],
+        build: Build,
+        workers: u32,
+        gate: &G,
     ) -> Result<Index, Memory>
         requires world { All InWorld points.now.items }
         requires named { All (IsFaceOf (length points.now.items)) faces.now }
         requires few { length faces.now ≤ MOST_FACES }
+        requires some_workers { 1 ≤ workers }
+        requires few_workers { workers ≤ MOST_WORKERS }
         ensures index { IfOk result (λ index. IsIndex index points.now.items faces.now) }
         ensures still { IfOk result (λ index. index.marks.moved ≡ []) }
         ensures built { IfOk result (λ index. index.built.value.items ≡ points.now.items) }
@@ -61,7 +69,7 @@ impl Index {
     {
         let boxes = boxes_of(rt, alloc, points, faces)?;
         let keys = order_by_threads(rt, alloc, &boxes)?;
-        let tree = tree_by_threads(rt, alloc, keys, &boxes)?;
+        let tree = tree_of(rt, alloc, build, keys, &boxes, workers, gate)?;
         let list = flatten(alloc, &tree, &boxes)?;
         let marks = Marks::none(alloc, points.len())?;
         Ok(Index {
@@ -127,24 +135,28 @@ impl Index {
         }
         self.fit_boxes(alloc, points, faces)?;
         let moved = self.list.moved(alloc, &self.boxes)?;
-        refit(alloc, &mut self.tree, &self.boxes)?;
+        refit(&mut self.tree, &self.boxes, &moved);
         self.list.refit(&self.boxes, &moved);
         self.marks.clear();
         Ok(())
     }
 
-    /// Builds tree and list anew over the points now, by as many threads as it is worth. After `Memory` the old ones
-    /// stand.
-    pub fn rebuild<R: Threads + Sync>(
+    /// Builds tree and list anew over the points now, as `build` does. After `Memory` the old ones stand.
+    pub fn rebuild<R: Threads + Sync, G: Gate>(
         &mut self,
         rt: &R,
         alloc: Global,
         points: &Vec<Point>,
         faces: &[Face],
+        build: Build,
+        workers: u32,
+        gate: &G,
     ) -> Result<(), Memory>
         requires world { All InWorld points.now.items }
         requires named { All (IsFaceOf (length points.now.items)) faces.now }
         requires few { length faces.now ≤ MOST_FACES }
+        requires some_workers { 1 ≤ workers }
+        requires few_workers { workers ≤ MOST_WORKERS }
         requires index { IsIndex self.old points.now.items faces.now }
         ensures index { IsIndex self.new points.now.items faces.now }
         ensures still { OnOk result (self.new.marks.moved ≡ []) }
@@ -155,7 +167,7 @@ impl Index {
     {
         self.fit_boxes(alloc, points, faces)?;
         let keys = order_by_threads(rt, alloc, &self.boxes)?;
-        let tree = tree_by_threads(rt, alloc, keys, &self.boxes)?;
+        let tree = tree_of(rt, alloc, build, keys, &self.boxes, workers, gate)?;
         self.list = flatten(alloc, &tree, &self.boxes)?;
         self.tree = tree;
         self.marks.clear();

@@ -4,6 +4,7 @@
 //! headline as a clause.
 #![tactic(auto)]
 
+mod builds;
 mod corners;
 mod desk;
 mod fans;

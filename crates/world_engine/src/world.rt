@@ -28,6 +28,9 @@ use walk_list::{nearest_among, overlaps};
 pub struct World {
     mesh: Mesh,
     points: Vec<Point>,
+    /// How trees are built, and by how many workers: at the opening and at each rebuild.
+    build: Build,
+    workers: u32,
     index: Index,
     settled: bool,
 }
@@ -46,7 +49,7 @@ impl Model for World {
       settled = w.settled;
     } };
 
-    ghost invariant = { λ w. IsKept w.mesh w.points.items w.index w.settled };
+    ghost invariant = { λ w. IsKept w.mesh w.points.items w.workers w.index w.settled };
 }
 
 impl World {
@@ -57,25 +60,30 @@ impl World {
 
     /// The world that the mesh opens, its last work 0.
     ///
-    /// `workers` is 1 to 64. Today's build shares its work among as many threads as it finds worth it, whatever
-    /// `workers` says, and passes no gate. After `Memory` the mesh is dropped.
+    /// `workers` is 1 to 64. Here and at each `Rebuild` so many workers carry the boxes up the tree, each in a thread of
+    /// its own where there is one: a worker goes through all batches of 64 leaves, passes the gate before each, and
+    /// carries up the leaves of those that no other worker took. Where there are fewer than two triangles nobody works.
+    /// What else a build does is shared by as many threads as it is worth, whatever `workers` says. The world is the same
+    /// for either `build` and any `workers`. After `Memory` the mesh is dropped.
     pub fn new<R: Threads + Sync, G: Gate>(
         rt: &R,
         alloc: Global,
         mesh: Mesh,
-        _build: Build,
+        build: Build,
         workers: u32,
-        _gate: &G,
+        gate: &G,
     ) -> Result<World, Memory>
         requires some { 1 ≤ workers }
         requires few { workers ≤ MOST_WORKERS }
         ensures { IfOk result (λ world. world ≡ world_of mesh) }
     {
         let points = mesh.points().to_vec(alloc).map_err(|_| Memory)?;
-        let index = Index::build(rt, alloc, &points, mesh.faces())?;
+        let index = Index::build(rt, alloc, &points, mesh.faces(), build, workers, gate)?;
         Ok(World {
             mesh,
             points,
+            build,
+            workers,
             index,
             settled: true,
         })
@@ -94,7 +102,7 @@ impl World {
         &mut self,
         rt: &R,
         alloc: Global,
-        _gate: &G,
+        gate: &G,
         ask: &Ask,
     ) -> Result<Reply, Memory>
         requires { IsAskable ask.now }
@@ -109,7 +117,7 @@ impl World {
             Ask::Seg { p, q } => self.segment(alloc, *p, *q),
             Ask::Move { vertex, to } => Ok(self.displace(*vertex, *to)),
             Ask::Refit => self.refit(alloc),
-            Ask::Rebuild => self.rebuild(rt, alloc),
+            Ask::Rebuild => self.rebuild(rt, alloc, gate),
             Ask::NodeOf { number } => self.node(alloc, *number),
             Ask::Cells { level } => self.cells(alloc, *level),
             Ask::Groups => self.groups(alloc),
@@ -177,13 +185,26 @@ impl World {
         Ok(Reply::Refitted)
     }
 
-    fn rebuild<R: Threads + Sync>(&mut self, rt: &R, alloc: Global) -> Result<Reply, Memory>
+    fn rebuild<R: Threads + Sync, G: Gate>(
+        &mut self,
+        rt: &R,
+        alloc: Global,
+        gate: &G,
+    ) -> Result<Reply, Memory>
         ensures reply { IfOk result (λ reply. reply ≡ reply_to self.old Ask.Rebuild) }
         ensures state { OnOk result (self.new ≡ state_after self.old Ask.Rebuild) }
         ensures memory { OnErr result (self.new ≡ self.old) }
     {
-        self.index
-            .rebuild(rt, alloc, &self.points, self.mesh.faces())?;
+        let (build, workers) = (self.build, self.workers);
+        self.index.rebuild(
+            rt,
+            alloc,
+            &self.points,
+            self.mesh.faces(),
+            build,
+            workers,
+            gate,
+        )?;
         self.settled = true;
         Ok(Reply::Rebuilt)
     }

@@ -15,15 +15,18 @@ bounds-boxes-keys c = rw c.keys.ensures.keys
     (tri_below c.args.tree.now.keys c.keys.ensures.table.lawful c.args.boxes.now c.requires.count c.args.position
     c.requires.within)
 
-pub returns : goal.returns
+pub returns-clause-value : goal.returns-clause-value
 unfolding box_of_triangle tri_at key_at
-returns c =
+returns-clause-value c =
     let tri = (get_or c.keys.result.now c.args.position (record { code = 0; tri = 0 })).tri in
     let same : tri ≡ tri_at c.args.tree.now.keys c.args.position =
     ap (λ ks. tri_at ks c.args.position) c.keys.ensures.keys in
     let within = tri_below c.args.tree.now.keys c.keys.ensures.table.lawful c.args.boxes.now c.requires.count
     c.args.position c.requires.within in
+    c.index-boxes-keys.is ∙ (ap (λ n. get_or c.args.boxes.now (n - 1) c.index-boxes-keys.result) same
+    ∙ get_or_default c.args.boxes.now _ _ _ within)
+
+pub returns-clause-least : goal.returns-clause-least
+returns-clause-least c =
     least_of_leaf_at c.args.boxes.now c.args.tree.now.keys c.args.position c.args.position c.index-boxes-keys.result refl
-    c.requires.within
-    (c.index-boxes-keys.is ∙ (ap (λ n. get_or c.args.boxes.now (n - 1) c.index-boxes-keys.result) same
-    ∙ get_or_default c.args.boxes.now _ _ _ within))
+    c.requires.within (returns-clause-value c)

@@ -6,12 +6,12 @@ use Rattle.walk_list.specs.declared.records.Leaf.{Leaf}
 use Rattle.walk_list.specs.Leaves.{leaf_at, no_leaf}
 use Rattle.walk_list.specs.Moving.{IsFitTo}
 use Rattle.walk_list.specs.Stale.{ListsMoved}
-use Rattle.walk_list.proofs.Listed.{told_false, lists_none, lists_one, lists_same}
+use Rattle.refit.proofs.Listed.{told_false, lists_none, lists_one, lists_same}
 use Rattle.walk_list.proofs.moving.list_moved.Goals as goal
 use Rattle.walk_list.proofs.moving.list_moved.Goals.{then-not-has_box+in_ok-push, else-not-has_box}
 
 pub loop-position-init : goal.loop-position-init
-loop-position-init c = lists_none c.args.leaves.now c.args.boxes.now c.args.moved.now.items c.requires.empty
+loop-position-init c = lists_none (λ p. IsFitTo c.args.boxes.now (leaf_at c.args.leaves.now p)) c.args.moved.now.items c.requires.empty
 
 pub overflow_sub-leaf : goal.overflow_sub-leaf
 unfolding leaf_at
@@ -48,15 +48,16 @@ loop-position-preserved c =
     omega (arith, number, c.requires.boxes.from_one p lt, c.requires.boxes.to_count p lt) in
     let boxed : c.index-boxes-leaf.result ≡ box_of_triangle c.args.boxes.now x.number =
     c.index-boxes-leaf.is ∙ get_or_default c.args.boxes.now (x.number - 1) c.index-boxes-leaf.result no_box inside in
+    let fits : ℕ → Type 0 = λ q. IsFitTo c.args.boxes.now (leaf_at leaves q) in
     elim c.if-not-has_box.branch [
       | then-not-has_box+in_ok-push w ↦
           subst (ListsMoved leaves c.args.boxes.now (p + 1))
           (sym (ap (λ v. v.items) w.moved-is ∙ w.in_ok-push.ensures.items))
-          (lists_one leaves c.args.boxes.now p c.loop-position.moved.items c.loop-position.invariant
+          (lists_one fits p c.loop-position.moved.items c.loop-position.invariant
           (subst (λ (l : Leaf). IsFitTo c.args.boxes.now l → ⊥) read
           (λ fit. told_false c.has_box.result c.has_box.ensures w.if-not-has_box.true (fit ∙ sym boxed))))
       | else-not-has_box w ↦
           subst (ListsMoved leaves c.args.boxes.now (p + 1)) (sym (ap (λ v. v.items) w.moved-is))
-          (lists_same leaves c.args.boxes.now p c.loop-position.moved.items c.loop-position.invariant
+          (lists_same fits p c.loop-position.moved.items c.loop-position.invariant
           (subst (IsFitTo c.args.boxes.now) read (c.has_box.ensures.0 w.if-not-has_box.false ∙ boxed)))
     ]

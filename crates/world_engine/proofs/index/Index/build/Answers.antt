@@ -9,4 +9,5 @@ returns-clause-index g c =
       nodes = search rules;
       fits = search rules;
       list = search rules;
+      leaves = search rules;
     }) tt

@@ -4,6 +4,7 @@ use Rattle.fixed_box.specs.World.{BoxInWorld}
 use Rattle.morton_key.specs.Order.{order_of}
 use Rattle.radix_tree.specs.Fit.{IsFitted, table_of}
 use Rattle.walk_list.specs.Lists.{IsOver}
+use Rattle.walk_list.specs.Leaves.{leaves_of}
 use Rattle.world_engine.specs.Worlds.{tris_at, boxes_at}
 use Rattle.world_engine.specs.Fans.{AreFans}
 use Rattle.world_engine.specs.Kept.{IsIndex}
@@ -56,6 +57,7 @@ returns-clause-index g c =
           ∙ (ap (λ ks. table_of ks c.deref-3.result.now) order
           ∙ ap (table_of (order_of (boxes_at c.of.result.value.items faces))) (c.deref-3.ensures.value ∙ made));
       fits = subst (IsFitted c.in_ok-tree.tree) c.deref-3.ensures.value c.in_ok-tree.ensures.fitted;
-      list = subst (IsOver c.in_ok-self.field-0) c.deref-4.ensures.value c.in_ok-self.ensures;
+      list = subst (IsOver c.in_ok-self.field-0) c.deref-4.ensures.value c.in_ok-self.ensures.over;
+      leaves = c.in_ok-self.ensures.leaves ∙ ap (leaves_of c.in_ok-tree.tree.keys) c.deref-4.ensures.value;
     })
     (subst (λ n. IfSome c.fit_boxes.new.self.fans (λ fans. AreFans fans faces n)) count old.fans)

@@ -17,6 +17,8 @@ invariant_of-self c =
       in_world = All-set InWorld points position c.args.to c.requires old.in_world;
       few = omega (arith, count, old.few);
       named = subst (λ n. All (IsFaceOf n) c.self.inside.mesh.faces) (sym count) old.named;
+      some_workers = old.some_workers;
+      few_workers = old.few_workers;
       index = moved_index c.self.inside.index points c.self.inside.mesh.faces old.index c.mark.new.self position
           c.args.to c.mark.ensures.vertices c.mark.ensures.marked c.mark.ensures.kept;
       settled = λ at_rest. absurd (false≢true at_rest);

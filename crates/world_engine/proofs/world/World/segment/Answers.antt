@@ -13,6 +13,8 @@ invariant_of-self-2 c = record {
   in_world = c.self.invariant.in_world;
   few = c.self.invariant.few;
   named = c.self.invariant.named;
+  some_workers = c.self.invariant.some_workers;
+  few_workers = c.self.invariant.few_workers;
   index = subst (λ faces. IsIndex c.mend.new.self c.self.inside.points.items faces) c.faces.ensures.faces
       (subst (λ points. IsIndex c.mend.new.self points c.faces.result.now) c.deref.ensures.value
       c.in_ok-mend.ensures.index);

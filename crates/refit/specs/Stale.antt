@@ -1,0 +1,42 @@
+-- A tree that is fitted to its boxes but for the triangles that moved.
+use Rattle.std.specs.Prelude.{ℕ, ◌≡◌, ◌<◌, ◌≤◌, ◌⊎◌, ◌++◌, List, Contains, All, length}
+use Rattle.std.specs.List.Sorted.{IsNonDecreasing}
+use Rattle.fixed_box.specs.declared.shapes.Box3.{Box3}
+use Rattle.morton_key.specs.declared.keys.Key.{Key}
+use Rattle.morton_key.specs.Keys.{tri_at}
+use Rattle.radix_tree.specs.declared.nodes.Node.{Node}
+use Rattle.radix_tree.specs.declared.nodes.Child.{Child}
+use Rattle.radix_tree.specs.Ranges.{IsNode}
+use Rattle.radix_tree.specs.Table.{Contents}
+use Rattle.radix_tree.specs.Fit.{IsFitted, box_of_triangle}
+use Rattle.radix_tree.specs.Filling.{HasRow}
+use Rattle.refit.specs.Subtrees.{IsUnder}
+
+-- the triangle at a position has the box that it had
+abbrev pub IsStill : List Key → List Box3 → List Box3 → ℕ → Type 0
+IsStill keys before boxes p = box_of_triangle boxes (tri_at keys p) ≡ box_of_triangle before (tri_at keys p)
+
+-- the tree is fitted to as many boxes, those before the moves; the triangle at each position that is not listed has now
+-- the box that it had
+pub record IsFittedBut (moved : List ℕ) (t : Contents) (boxes : List Box3) : Type 0 where
+  pub before : List Box3
+  pub fitted : IsFitted t before
+  pub count : length boxes ≡ length before
+  pub same : (p : ℕ) → p < length t.keys → Contains moved p ⊎ IsStill t.keys before boxes p
+
+-- none of the positions is from a to b
+abbrev pub AreOutside : List ℕ → ℕ → ℕ → Type 0
+AreOutside moved a b = All (λ p. (p < a) ⊎ (b < p)) moved
+
+-- the nodes of a child's subtree have their rows, but for those with a moved position in their range
+abbrev pub AreFittedBut : List ℕ → List Key → List Box3 → List Node → Child → Type 0
+AreFittedBut moved keys boxes nodes child = (k a b : ℕ) → IsUnder keys child k → IsNode keys k a b →
+    AreOutside moved a b → HasRow keys boxes nodes k
+
+-- positions parted into those up to a split and those behind it
+pub record AreParted (moved : List ℕ) (s : ℕ) (near far : List ℕ) : Type 0 where
+  pub whole : near ++ far ≡ moved
+  pub upto : All (λ p. p ≤ s) near
+  pub behind : All (λ p. s < p) far
+  pub near_rises : IsNonDecreasing near
+  pub far_rises : IsNonDecreasing far
