@@ -11,7 +11,7 @@ use obj_text::{Face, read_mesh};
 use outside::OpenGate;
 use query_script::{Ask, Reply};
 use radix_tree::plain;
-use refit::refit;
+use refit::{moved, refit_in_turn};
 use segment_hit::{Frac, cmp, hit};
 use std::alloc::{AllocError, Global};
 use std::cmp::Ordering;
@@ -196,7 +196,8 @@ fn plain_work<R: Abort + AllocGlobal>(
     assert!(rt; now.len() == built.len());
     assert!(rt; built.iter().all(|b| in_world(&b.lo) && in_world(&b.hi)));
     let mut tree = plain(alloc, order(alloc, built)?, built)?;
-    refit(alloc, &mut tree, now)?;
+    let moved = moved(alloc, &tree, built, now)?;
+    refit_in_turn(&mut tree, now, &moved);
     Ok(overlaps(alloc, &tree, now, around)?.work)
 }
 
