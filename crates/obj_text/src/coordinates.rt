@@ -27,6 +27,7 @@ fn coordinate(word: &[u8], unit: u32) -> Result<i32, Why>
     }
 }
 
+/// The coordinate of so many grid steps, or `Outside` where it is none of the world.
 pub fn in_world(steps: i64) -> Result<i32, Why>
     ensures { result ≡ in_world steps }
 {

@@ -13,7 +13,7 @@ use std::process::Abort;
 use std::rt::HostRuntime;
 use std::test::Fail;
 
-fn at(x: i32, y: i32, z: i32) -> Point {
+pub(crate) fn at(x: i32, y: i32, z: i32) -> Point {
     Point { x, y, z }
 }
 
@@ -100,7 +100,7 @@ fn no_triangle_and_one_have_nothing_to_fit(rt: HostRuntime) -> Result<(), Fail> 
 }
 
 /// The next number of a sequence that jumps about.
-fn jump(seed: u64) -> u64 {
+pub(crate) fn jump(seed: u64) -> u64 {
     seed.wrapping_mul(6364136223846793005)
         .wrapping_add(1442695040888963407)
 }
@@ -110,7 +110,11 @@ fn coordinate(seed: u64) -> i32 {
 }
 
 /// So many boxes of a sequence, scattered over a cube.
-fn scattered(alloc: Global, count: usize, mut seed: u64) -> Result<Vec<Box3>, AllocError> {
+pub(crate) fn scattered(
+    alloc: Global,
+    count: usize,
+    mut seed: u64,
+) -> Result<Vec<Box3>, AllocError> {
     let mut boxes = Vec::with_capacity(alloc, count)?;
     for _ in 0..count {
         let lo = at(

@@ -7,8 +7,9 @@ ghost use Rattle.arrival_core.specs.Settings.{live_in};
 ghost use Rattle.arrival_core.specs.Tasks.{FitsButFor};
 
 use crate::refit;
+use crate::tests::{at, jump, scattered};
 use box_handoff::{Tally, TreeWays};
-use fixed_box::{Box3, Point, in_world};
+use fixed_box::{Box3, in_world};
 use morton_key::{Key, order};
 use outside::{Memory, OpenGate};
 use radix_tree::{Tree, plain};
@@ -109,10 +110,6 @@ fn both<R: Threads + Sync + Abort>(
     Ok((tree, tally, slow))
 }
 
-fn at(x: i32, y: i32, z: i32) -> Point {
-    Point { x, y, z }
-}
-
 #[test]
 fn one_moved_triangle_of_three_takes_two_fits_in_ten_steps(rt: HostRuntime) -> Result<(), Fail> {
     let first = Box3::of_corners(at(0, 0, 0), at(4, 4, 0));
@@ -129,37 +126,6 @@ fn one_moved_triangle_of_three_takes_two_fits_in_ten_steps(rt: HostRuntime) -> R
     let (_, tally, _) = both(&rt, rt.alloc(), &[first], &[moved], &[0], 1)?;
     assert_eq!(rt; (tally.fits, tally.steps), (0, 0));
     Ok(())
-}
-
-/// The next number of a sequence that jumps about.
-fn jump(seed: u64) -> u64 {
-    seed.wrapping_mul(6364136223846793005)
-        .wrapping_add(1442695040888963407)
-}
-
-fn coordinate(seed: u64) -> i32 {
-    (seed >> 40) as i32 % 1000 - 500
-}
-
-/// So many boxes of a sequence, scattered over a cube.
-fn scattered(alloc: Global, count: usize, mut seed: u64) -> Result<Vec<Box3>, AllocError> {
-    let mut boxes = Vec::with_capacity(alloc, count)?;
-    for _ in 0..count {
-        let lo = at(
-            coordinate(seed),
-            coordinate(jump(seed)),
-            coordinate(seed >> 8),
-        );
-        seed = jump(jump(seed));
-        let hi = at(
-            coordinate(seed),
-            coordinate(jump(seed)),
-            coordinate(seed >> 8),
-        );
-        seed = jump(jump(seed));
-        boxes.push(Box3::of_corners(lo, hi))?;
-    }
-    Ok(boxes)
 }
 
 /// A live list of a kind: one position, neighbours, all, or each with a chance.
