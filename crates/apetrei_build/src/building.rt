@@ -8,7 +8,7 @@ ghost use Rattle.box_handoff.specs.Counts.{IsBuildCounted};
 
 use crate::Deltas;
 use arrival_core::MOST_WORKERS;
-use box_handoff::{Built, Tally, assemble, fit};
+use box_handoff::{Built, FittedNodes, Tally, fit_nodes};
 use fixed_box::Box3;
 use morton_key::Key;
 use outside::{Gate, Memory};
@@ -48,10 +48,9 @@ pub fn build<R: Threads + Sync, G: Gate>(
         });
     }
     let ways = Deltas::new(alloc, &keys)?;
-    let fitted = fit(rt, alloc, &ways, gate, &keys, boxes, workers)?;
-    let tree = assemble(alloc, keys, &fitted)?;
+    let FittedNodes { nodes, tally } = fit_nodes(rt, alloc, &ways, gate, &keys, boxes, workers)?;
     Ok(Built {
-        tree,
-        tally: fitted.tally,
+        tree: Tree::of(keys, nodes),
+        tally,
     })
 }

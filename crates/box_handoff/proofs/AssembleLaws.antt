@@ -1,5 +1,5 @@
 -- The rows of a table, written from the packets of the nodes' children.
-use Rattle.std.proofs.Common.{◌≡◌, ℕ, suc, ◌+◌, ◌-◌, ◌<◌, ◌≤◌, inl, inr, List, length, sym, refl, ap, ◌∙◌, subst, arith}
+use Rattle.std.proofs.Common.{◌≡◌, ℕ, suc, ◌+◌, ◌-◌, ◌<◌, ◌≤◌, inl, inr, Bool, List, length, sym, refl, ap, ◌∙◌, subst, arith}
 use Rattle.std.proofs.lemmas.Bool.{cases_lt}
 use Rattle.std.proofs.Math.ListN.{length-set}
 use Rattle.fixed_box.specs.declared.shapes.Box3.{Box3}
@@ -20,10 +20,33 @@ use Rattle.radix_tree.proofs.FillLaws.{row_here, row_kept, IsFull, full_from_row
 use Rattle.arrival_core.specs.declared.packets.Packet.{Packet}
 use Rattle.arrival_core.specs.declared.packets.Side.TheVariants.{Left, Right}
 use Rattle.arrival_core.proofs.SplitNames.{Named, named}
+use Rattle.arrival_core.specs.Tasks.{IsWhole}
 use Rattle.box_handoff.specs.declared.fitted.Fitted.{Fitted}
+use Rattle.box_handoff.specs.declared.slots.SlotPacket.{SlotPacket}
+use Rattle.box_handoff.specs.declared.views.Given.{Given}
+use Rattle.box_handoff.specs.Entries.{setting_of}
 use Rattle.box_handoff.specs.Packets.{child_packet, AreFitted}
-use Rattle.box_handoff.specs.Assembling.{row, root_row, IsRoot, PutsChild, PutsRoot, AreWritten, IsWriting}
+use Rattle.box_handoff.specs.Assembling.{row, root_row, IsRoot, PutsChild, PutsRoot, PutsRows, AreWritten, IsWriting, IsWritingOut}
 use Rattle.box_handoff.proofs.PacketRows.{tells_row, left_tells, right_tells}
+
+-- the list stays as long
+pub child_count : (old new : List Node) (k : ℕ) (p : Packet) → PutsChild old new k p → length new ≡ length old
+child_count old new k p puts = elim puts [
+  | inl put ↦ ap (λ l. length l) put.1
+      ∙ length-set old k (row p)
+  | inr same ↦ ap (λ l. length l) same.1
+]
+
+pub root_count : (old new : List Node) (s : ℕ) (l r : Packet) → PutsRoot old new s l r → length new ≡ length old
+root_count old new s l r puts = elim puts [
+  | inl put ↦ ap (λ xs. length xs) put.1
+      ∙ length-set old 0 (root_row s l r)
+  | inr same ↦ ap (λ xs. length xs) same.1
+]
+
+pub rows_count : (old new : List Node) (t : ℕ) (l r : Packet) → PutsRows old new t l r → length new ≡ length old
+rows_count old new t l r puts = root_count puts.1 new t l r puts.4 ∙ child_count puts.0 puts.1 (t + 1) r puts.3
+    ∙ child_count old puts.0 t l puts.2
 
 module _ (keys : List Key) (ok : IsLawful keys) (boxes : List Box3) where
   -- ---- a child's row
@@ -105,7 +128,7 @@ module _ (keys : List Key) (ok : IsLawful keys) (boxes : List Box3) where
     stays x h = root_kept c d t l r puts_root root_full x
         (child_kept b c k r puts_right right_full x (child_kept a b t l puts_left left_full x h))
 
-    pub written : AreWritten keys boxes t a → AreWritten keys boxes (t + 1) d
+    written : AreWritten keys boxes t a → AreWritten keys boxes (t + 1) d
     written w = record {
       lefts = λ i x y s n e low less. elim (cases_lt s t) [
         | inl before ↦ stays s (w.lefts i x y s n e low before)
@@ -136,6 +159,16 @@ module _ (keys : List Key) (ok : IsLawful keys) (boxes : List Box3) where
             root_here c d t l r puts_root is (root_full is)
       ];
     }
+
+  -- the rows that the packets of one node's children tell make one split more written
+  pub rows_written : (t : ℕ) → t < length keys - 1 → (l r : Packet) → l ≡ child_packet keys boxes t Left →
+      r ≡ child_packet keys boxes t Right → (old new : List Node) → length old ≡ length keys - 1 →
+      PutsRows old new t l r → AreWritten keys boxes t old → AreWritten keys boxes (t + 1) new
+  rows_written t lt l r l_is r_is old new count puts w =
+      let b : List Node = puts.0 in
+      let c : List Node = puts.1 in
+      let long = child_count b c (t + 1) r puts.3 ∙ child_count old b t l puts.2 ∙ count in
+      written t (t + 1) lt (omega arith) l r l_is r_is old b c new long puts.2 puts.3 puts.4 w
 
   -- when all are written, every row is there
   all_rows : (nodes : List Node) (t : ℕ) → length keys - 1 ≤ t → AreWritten keys boxes t nodes →
@@ -184,17 +217,9 @@ pub same_tree : (t : Contents) (keys : List Key) (nodes : List Node) (boxes : Li
 same_tree t keys nodes boxes k n h = subst (λ ks. IsFitted (record { keys = ks; nodes = t.nodes }) boxes) (sym k)
     (subst (λ ns. IsFitted (record { keys = keys; nodes = ns }) boxes) (sym n) h)
 
--- the list stays as long
-pub child_count : (old new : List Node) (k : ℕ) (p : Packet) → PutsChild old new k p → length new ≡ length old
-child_count old new k p puts = elim puts [
-  | inl put ↦ ap (λ l. length l) put.1
-      ∙ length-set old k (row p)
-  | inr same ↦ ap (λ l. length l) same.1
-]
-
-pub root_count : (old new : List Node) (s : ℕ) (l r : Packet) → PutsRoot old new s l r → length new ≡ length old
-root_count old new s l r puts = elim puts [
-  | inl put ↦ ap (λ xs. length xs) put.1
-      ∙ length-set old 0 (root_row s l r)
-  | inr same ↦ ap (λ xs. length xs) same.1
-]
+-- what is written when all rows are is the table, and fitted
+pub all_out : (g : Given) → IsWhole (setting_of g) → (slots : List SlotPacket) (filled : List Bool) (places t : ℕ)
+    (nodes : List Node) →
+    IsWritingOut g slots filled places t nodes → length g.keys - 1 ≤ t → IsFull g.keys g.boxes nodes
+all_out g whole slots filled places t nodes w le =
+    all_written g.keys whole.lawful g.boxes nodes t whole.boxes_count w.count le w.written

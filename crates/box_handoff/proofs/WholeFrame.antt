@@ -1,5 +1,6 @@
 -- What the core's crate says of a handoff over all keys.
 use Rattle.std.proofs.Common.{◌≡◌, sym, subst, ap, ◌∙◌, ℕ, ◌+◌, ◌-◌, ◌/◌, ◌<◌, length, List, arith, true, refl, ◌*◌, None}
+use Rattle.std.specs.Prelude.{slice_index}
 use Rattle.arrival_core.specs.declared.packets.Packet.{Packet}
 use Rattle.arrival_core.specs.declared.packets.Side.{Side}
 use Rattle.arrival_core.specs.declared.packets.Side.TheVariants.{Left, Right}
@@ -11,10 +12,11 @@ use Rattle.arrival_core.proofs.WholeLaws as core
 use Rattle.box_handoff.specs.declared.views.Given.{Given}
 use Rattle.box_handoff.specs.declared.fitted.Fitted.{Fitted}
 use Rattle.box_handoff.specs.LiveNodes.{AreSpots, splits_of}
-use Rattle.box_handoff.specs.Entries.{IsGiven, setting_of, frame}
+use Rattle.box_handoff.specs.Entries.{IsGiven, setting_of, frame, numbers}
 use Rattle.box_handoff.specs.Packets.{child_packet, ArePackets, ArePacketsOf, AreFitted, AreLiveFitted}
 use Rattle.box_handoff.specs.Counts.{IsCounted, IsLiveCounted}
 use Rattle.box_handoff.proofs.SplitLists.{splits_all}
+use Rattle.box_handoff.proofs.NumberLaws.{counted}
 
 module _ (g : Given) (ok : IsWhole (setting_of g)) where
   -- every child is live
@@ -34,6 +36,22 @@ module _ (g : Given) (ok : IsWhole (setting_of g)) where
     few = ok.few;
     spots = subst (AreSpots (frame g)) (sym none) all_live_nodes;
   }
+
+-- where all leaves are live, the splits of the live nodes are all numbers below the count of nodes
+module _ (g : Given) (given : IsGiven g) (ok : IsWhole (setting_of g)) where
+  all_splits : (length (splits_of (frame g)) ≡ length g.keys - 1) ×
+      ((i : ℕ) → i < length g.keys - 1 → slice_index (splits_of (frame g)) i ≡ 0 + i)
+  unfolding frame frame_of
+  all_splits = splits_all (frame_of (setting_of g)) 0 (frame_of (setting_of g)).nodes
+      (λ t l u. core.all_live_nodes (setting_of g) ok t (omega (arith, u)))
+
+  -- so there are that many
+  pub whole_count : (numbers g).count ≡ length g.keys - 1
+  whole_count = counted g given ∙ all_splits.0
+
+  -- and each stands at its own place
+  pub whole_split : (i : ℕ) → i < length g.keys - 1 → slice_index (splits_of (frame g)) i ≡ i
+  whole_split i lt = all_splits.1 i lt ∙ (let z : 0 + i ≡ i = omega arith in z)
 
 -- the packets and the counts where all leaves are live
 module _ (x : Setting) (ok : IsWhole x) where

@@ -1,5 +1,5 @@
 -- A table of nodes while it is written from the packets of their children. No public clause cites this module.
-use Rattle.std.specs.Prelude.{ℕ, suc, ◌≡◌, ◌<◌, ◌≤◌, ◌-◌, ◌⊎◌, List, length, slice_set}
+use Rattle.std.specs.Prelude.{ℕ, suc, ◌≡◌, ◌<◌, ◌≤◌, ◌+◌, ◌-◌, ◌⊎◌, Bool, List, length, slice_set}
 use Rattle.fixed_box.specs.declared.shapes.Box3.{Box3}
 use Rattle.fixed_box.specs.Extent.{union_of}
 use Rattle.morton_key.specs.declared.keys.Key.{Key}
@@ -9,6 +9,9 @@ use Rattle.radix_tree.specs.Ranges.{IsNode}
 use Rattle.radix_tree.specs.Filling.{HasRow}
 use Rattle.arrival_core.specs.declared.packets.Packet.{Packet}
 use Rattle.box_handoff.specs.declared.fitted.Fitted.{Fitted}
+use Rattle.box_handoff.specs.declared.slots.SlotPacket.{SlotPacket}
+use Rattle.box_handoff.specs.declared.views.Given.{Given}
+use Rattle.box_handoff.specs.Gathering.{IsTaking}
 use Rattle.box_handoff.specs.Packets.{AreFitted}
 
 -- the row that a packet tells
@@ -33,6 +36,10 @@ abbrev pub PutsRoot : List Node → List Node → ℕ → Packet → Packet → 
 PutsRoot old new s l r = (IsRoot old l r × (new ≡ slice_set old 0 (root_row s l r))) ⊎
     ((¬ IsRoot old l r) × (new ≡ old))
 
+-- both children's rows and the root's are put, one after another
+abbrev pub PutsRows : List Node → List Node → ℕ → Packet → Packet → Type 0
+PutsRows old new t l r = (b c : List Node) × PutsChild old b t l × PutsChild b c (t + 1) r × PutsRoot c new t l r
+
 -- the rows of all children of nodes with a split below t are there, and the root's, if its split is below t
 pub record AreWritten (keys : List Key) (boxes : List Box3) (t : ℕ) (nodes : List Node) : Type 0 where
   pub lefts : (i a b s : ℕ) → IsNode keys i a b → split keys a b ≡ s → a < s → s < t → HasRow keys boxes nodes s
@@ -45,3 +52,10 @@ pub record IsWriting (keys : List Key) (x : Fitted) (t : ℕ) (nodes : List Node
   pub count : length nodes ≡ length keys - 1
   pub written : (boxes : List Box3) → length boxes ≡ length keys → AreFitted keys boxes x →
       AreWritten keys boxes t nodes
+
+-- while rows are written out of a closed table over all leaves
+pub record IsWritingOut (g : Given) (slots : List SlotPacket) (filled : List Bool) (places t : ℕ)
+    (nodes : List Node) : Type 0 where
+  pub taking : IsTaking g slots filled places t
+  pub count : length nodes ≡ length g.keys - 1
+  pub written : AreWritten g.keys g.boxes t nodes

@@ -89,12 +89,16 @@ abbrev pub AreKept : Given → List SlotPacket → Type 0
 AreKept g slots = (t : ℕ) (d : Side) → Shown (frame g) t →
     get_elem? slots (slot ((numbers g).number t) d) ≡ some (packed d (packet_at (frame g) t d))
 
--- while packets are taken out of a closed table
-pub record IsReading (g : Given) (items now : List SlotPacket) (filled : List Bool) (count : ℕ)
-    (left right : List Packet) (t : ℕ) : Type 0 where
-  pub same : now ≡ items
+-- while packets are taken out of a closed table: those of the first so many nodes are out
+pub record IsTaking (g : Given) (slots : List SlotPacket) (filled : List Bool) (count t : ℕ) : Type 0 where
+  pub kept : AreKept g slots
   pub places : count ≡ 2 * (numbers g).count
   pub full : (k : ℕ) → 2 * t ≤ k → k < count → slice_index_or filled k false ≡ true
   pub empty : (k : ℕ) → k < 2 * t → slice_index_or filled k false ≡ false
+
+-- and they are listed
+pub record IsReading (g : Given) (slots : List SlotPacket) (filled : List Bool) (count : ℕ)
+    (left right : List Packet) (t : ℕ) : Type 0 where
+  pub taking : IsTaking g slots filled count t
   pub lefts : ArePacketsOf g.keys g.boxes (splits_of (frame g)) Left t left
   pub rights : ArePacketsOf g.keys g.boxes (splits_of (frame g)) Right t right

@@ -3,6 +3,8 @@ use Rattle.std.specs.Prelude.{ℕ, ◌≡◌, ◌<◌, ◌-◌, List, length, sl
 use Rattle.fixed_box.specs.declared.shapes.Box3.{Box3}
 use Rattle.morton_key.specs.declared.keys.Key.{Key}
 use Rattle.morton_key.specs.Keys.{tri_at}
+use Rattle.radix_tree.specs.declared.nodes.Node.{Node}
+use Rattle.radix_tree.specs.Table.{Contents}
 use Rattle.radix_tree.specs.Fit.{box_of_triangle, boxes_in, least_box_of}
 use Rattle.arrival_core.specs.declared.packets.Packet.{Packet}
 use Rattle.arrival_core.specs.declared.packets.Side.{Side}
@@ -51,3 +53,7 @@ pub record AreLiveFitted (x : Setting) (fitted : Fitted) : Type 0 where
 pub record AreFitted (keys : List Key) (boxes : List Box3) (x : Fitted) : Type 0 where
   pub left : ArePackets keys boxes Left (length keys - 1) x.left.items
   pub right : ArePackets keys boxes Right (length keys - 1) x.right.items
+
+-- the tree of these keys and nodes
+abbrev pub over_keys : List Key → List Node → Contents
+over_keys keys nodes = record { keys = keys; nodes = nodes }

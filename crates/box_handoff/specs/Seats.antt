@@ -6,15 +6,18 @@ use Rattle.morton_key.specs.declared.keys.Key.{Key}
 use Rattle.arrival_core.specs.declared.packets.Phase.TheVariants.{Ended}
 use Rattle.arrival_core.specs.declared.packets.Tally.{Tally}
 use Rattle.arrival_core.specs.Start.{fresh}
+use Rattle.radix_tree.specs.Table.{Contents}
 use Rattle.arrival_core.specs.Settings.{Setting}
 use Rattle.arrival_core.specs.Tasks.{IsWhole}
 use Rattle.box_handoff.specs.declared.views.Given.{Given}
 use Rattle.box_handoff.specs.declared.views.Entry.{Entry}
 use Rattle.box_handoff.specs.declared.seats.HandSeat.{HandSeat}
 use Rattle.box_handoff.specs.declared.handoffs.Handoff.{Handoff}
+use Rattle.box_handoff.specs.declared.fitted.FittedNodes.{FittedNodes}
 use Rattle.box_handoff.specs.Entries.{setting_of, given_of, one, worker_of, total}
 use Rattle.box_handoff.specs.Plays.{mine, IsSmall}
 use Rattle.box_handoff.specs.Made.{IsMade}
+use Rattle.box_handoff.specs.Packets.{over_keys}
 
 -- which table a handoff has
 abbrev pub id_of : Handoff → TableId
@@ -52,6 +55,10 @@ pub record IsSeatOf (h : Handoff) (s : HandSeat) : Type 0 where
 -- the keys, boxes, live positions and count of seats of a handoff, as the machine's setting
 abbrev pub setting_by : Handoff → Setting
 setting_by h = setting_of (given_by h)
+
+-- the tree of its keys and of these nodes
+abbrev pub tree_by : Handoff → FittedNodes → Contents
+tree_by h r = over_keys (given_by h).keys r.nodes.items
 
 -- a handoff over these keys and boxes, of which all leaves are live, with so many seats
 pub record IsOver (keys : List Key) (boxes : List Box3) (seats : ℕ) (h : Handoff) : Type 0 where

@@ -1,15 +1,22 @@
 //! A tree from the packets of its nodes' children. The packet of an inner child tells the child's row, and its place
 //! the child's number: a left child has its parent's split for number, a right one the next.
-ghost use Rattle.std.specs.Prelude.{◌≡◌, ◌<◌, ◌-◌, List, length, IfOk};
+ghost use Rattle.std.specs.Prelude.{◌≡◌, ◌<◌, ◌≤◌, ◌+◌, ◌-◌, ◌^◌, List, length, IfOk};
 ghost use Rattle.fixed_box.specs.declared.shapes.Box3.{Box3};
 ghost use Rattle.morton_key.specs.Keys.{IsLawful};
 ghost use Rattle.radix_tree.specs.Table.{IsTable};
 ghost use Rattle.radix_tree.specs.Fit.{IsFitted, table_of};
-ghost use Rattle.box_handoff.specs.Packets.{AreFitted};
-ghost use Rattle.box_handoff.specs.Assembling.{row, PutsChild, PutsRoot};
+ghost use Rattle.arrival_core.specs.Tasks.{IsWhole};
+ghost use Rattle.box_handoff.specs.Entries.{IsGiven, given_of, setting_of, numbers};
+ghost use Rattle.box_handoff.specs.Gathering.{IsTaking};
+ghost use Rattle.box_handoff.specs.Packets.{AreFitted, over_keys};
+ghost use Rattle.box_handoff.specs.Assembling.{row, PutsChild, PutsRoot, PutsRows};
 
+use crate::gathering::take_pair;
+use crate::slots::SlotPacket;
+use crate::views::About;
 use crate::{Fitted, Packet};
-use fixed_box::union;
+use atomic_table::Closed;
+use fixed_box::{Box3, Point, union};
 use morton_key::Key;
 use outside::Memory;
 use radix_tree::{Node, Tree};
@@ -52,14 +59,52 @@ fn put_root(nodes: &mut Vec<Node>, split: u32, left: &Packet, right: &Packet)
     }
 }
 
-/// A node for each packet of a left child, still to be written.
-fn blank_nodes(alloc: Global, left: &[Packet]) -> Result<Vec<Node>, Memory>
-    ensures { IfOk result (λ nodes. length nodes.items ≡ length left.now) }
+/// Puts the rows that the packets of the children of the node with split `t` tell.
+fn put_rows(nodes: &mut Vec<Node>, t: usize, left: &Packet, right: &Packet)
+    requires some { t < length nodes.old.items }
+    requires within { right.now.first < right.now.last → t + 1 < length nodes.old.items }
+    requires few { length nodes.old.items ≤ 2 ^ 20 }
+    ensures { PutsRows nodes.old.items nodes.new.items t left.now right.now }
 {
-    let Some(any) = left.first() else {
-        return Ok(Vec::new(alloc));
+    put_child(nodes, t, left);
+    put_child(nodes, t + 1, right);
+    put_root(nodes, t as u32, left, right);
+}
+
+/// So many nodes, still to be written.
+pub fn blank_nodes(alloc: Global, count: usize) -> Result<Vec<Node>, Memory>
+    ensures { IfOk result (λ nodes. length nodes.items ≡ count) }
+{
+    let origin = Point { x: 0, y: 0, z: 0 };
+    let blank = Node {
+        first: 0,
+        last: 0,
+        split: 0,
+        fit: Box3::of_corners(origin, origin),
     };
-    vec![in alloc; row_of(any); left.len()].map_err(|_| Memory)
+    vec![in alloc; blank; count].map_err(|_| Memory)
+}
+
+/// Writes the rows of all inner nodes out of a closed table over all leaves, and frees the table.
+pub fn write_out(
+    mut closed: Closed<SlotPacket, Global>,
+    mut nodes: Vec<Node>,
+    about: &About<'_>,
+) -> Vec<Node>
+    requires given { IsGiven (given_of about.now) }
+    requires whole { IsWhole (setting_of (given_of about.now)) }
+    requires taking { IsTaking (given_of about.now) closed.slots.items closed.slots.filled closed.slots.len 0 }
+    requires room { length nodes.items ≡ (numbers (given_of about.now)).count }
+    ensures table { IsTable (over_keys about.now.keys.now result.items) }
+    ensures fitted { IsFitted (over_keys about.now.keys.now result.items) about.now.boxes.now }
+    ensures value { result.items ≡ table_of about.now.keys.now about.now.boxes.now }
+{
+    for t in 0..nodes.len() {
+        let (left, right) = take_pair(&mut closed, about, t);
+        put_rows(&mut nodes, t, &left, &right);
+    }
+    closed.free();
+    nodes
 }
 
 /// The tree whose inner nodes have these children: it is fitted to the boxes that the packets are. It takes memory for
@@ -75,13 +120,9 @@ pub fn assemble(alloc: Global, keys: Vec<Key>, fitted: &Fitted) -> Result<Tree, 
     ensures value { (boxes : List Box3) → length boxes ≡ length keys.items → AreFitted keys.items boxes fitted.now →
         IfOk result (λ t. t.nodes ≡ table_of keys.items boxes) }
 {
-    let mut nodes = blank_nodes(alloc, &fitted.left)?;
+    let mut nodes = blank_nodes(alloc, fitted.left.len())?;
     for t in 0..nodes.len() {
-        let left = fitted.left[t];
-        let right = fitted.right[t];
-        put_child(&mut nodes, t, &left);
-        put_child(&mut nodes, t + 1, &right);
-        put_root(&mut nodes, t as u32, &left, &right);
+        put_rows(&mut nodes, t, &fitted.left[t], &fitted.right[t]);
     }
     Ok(Tree::of(keys, nodes))
 }

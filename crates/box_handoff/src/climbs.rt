@@ -1,18 +1,21 @@
 //! The calls of a handoff.
-ghost use Rattle.std.specs.Prelude.{◌≡◌, ◌<◌, ◌≤◌, ℕ, length, IfOk, true, false};
+ghost use Rattle.std.specs.Prelude.{◌≡◌, ◌<◌, ◌≤◌, ℕ, [], length, vec_capacity, IfOk, true, false};
 ghost use Rattle.morton_key.specs.Keys.{IsLawful};
 ghost use Rattle.box_handoff.specs.Entries.{frame};
 ghost use Rattle.box_handoff.specs.Climbs.{Grew};
 ghost use Rattle.arrival_core.specs.declared.packets.TheConstants.{MOST_WORKERS};
 ghost use Rattle.arrival_core.specs.Settings.{setting};
 ghost use Rattle.arrival_core.specs.Tasks.{IsTask, IsWhole, FitsButFor};
+ghost use Rattle.radix_tree.specs.Table.{IsTable};
+ghost use Rattle.radix_tree.specs.Fit.{IsFitted, table_of};
 ghost use Rattle.box_handoff.specs.Packets.{AreFitted, AreLiveFitted};
 ghost use Rattle.box_handoff.specs.Counts.{IsCounted, IsLiveCounted};
-ghost use Rattle.box_handoff.specs.Seats.{given_by, setting_by, entry_of, IsSeatOf, IsOver, AreFresh, AreAll, IsSumOf};
+ghost use Rattle.box_handoff.specs.Seats.{given_by, setting_by, entry_of, IsSeatOf, tree_by, IsOver, AreFresh, AreAll, IsSumOf};
 
+use crate::assembling::{blank_nodes, write_out};
 use crate::climbing::{batches_of, climb_with};
-use crate::fitted::Fitted;
-use crate::gathering::{gather, read_out};
+use crate::fitted::{Fitted, FittedNodes};
+use crate::gathering::{finish, read_out};
 use crate::handoffs::Handoff;
 use crate::making::{make_live, make_whole, seats_of, whole};
 use crate::numbering::count_of;
@@ -108,7 +111,7 @@ impl<'a> Handoff<'a> {
     /// The packets of the children of all live nodes, in the order of their splits, and the tallies of all seats added
     /// up. The seats are all those of the handoff, in any order, and each has ended. After `Memory` the handoff and the
     /// seats are dropped.
-    pub fn close(self, alloc: Global, mut seats: Vec<HandSeat>) -> Result<Fitted, Memory>
+    pub fn close(self, alloc: Global, seats: Vec<HandSeat>) -> Result<Fitted, Memory>
         requires seats { AreAll self seats.items }
         ensures live { IfOk result (λ r. AreLiveFitted (setting_by self.entry) r) }
         ensures sum { IfOk result (λ r. IsSumOf seats.items r.tally) }
@@ -119,28 +122,42 @@ impl<'a> Handoff<'a> {
         ensures counts { IsWhole (setting_by self.entry) →
             IfOk result (λ r. IsCounted (length (given_by self.entry).keys) (given_by self.entry).seats r.tally) }
     {
-        let Handoff { table, about } = self;
-        let Some(last) = seats.pop() else {
-            unreachable!()
-        };
-        let HandSeat {
-            seat,
-            number: _,
-            ended: _,
-            tally: of_last,
-        } = last;
-        let (seat, tally) = gather(&table.shared, seats, seat, of_last);
-        let count = count_of(&about);
-        let Ok(left) = Vec::with_capacity(alloc, count) else {
-            return Err(Memory);
-        };
-        let Ok(right) = Vec::with_capacity(alloc, count) else {
-            return Err(Memory);
-        };
-        let closed = table.close_with(seat);
+        let count = count_of(&self.about);
+        let left = room_for(alloc, count)?;
+        let right = room_for(alloc, count)?;
+        let (closed, about, tally) = finish(self, seats);
         let (left, right) = read_out(closed, left, right, count, &about);
         Ok(Fitted { left, right, tally })
     }
+
+    /// The inner nodes of the tree of all keys, fitted to the boxes, and the tallies of all seats added up, where all
+    /// leaves are live: the nodes of the tree that `assemble` makes of what `close` answers, written in one pass over
+    /// the table. The seats are all those of the handoff, in any order, and each has ended. It takes memory for the
+    /// nodes alone. After `Memory` the handoff and the seats are dropped.
+    pub fn close_nodes(self, alloc: Global, seats: Vec<HandSeat>) -> Result<FittedNodes, Memory>
+        requires seats { AreAll self seats.items }
+        requires whole { IsWhole (setting_by self) }
+        ensures table { IfOk result (λ r. IsTable (tree_by self.entry r)) }
+        ensures fitted { IfOk result (λ r. IsFitted (tree_by self.entry r) (given_by self.entry).boxes) }
+        ensures value { IfOk result (λ r. r.nodes.items ≡
+            table_of (given_by self.entry).keys (given_by self.entry).boxes) }
+        ensures sum { IfOk result (λ r. IsSumOf seats.items r.tally) }
+        ensures counts { IfOk result (λ r.
+            IsCounted (length (given_by self.entry).keys) (given_by self.entry).seats r.tally) }
+    {
+        let room = blank_nodes(alloc, count_of(&self.about))?;
+        let (closed, about, tally) = finish(self, seats);
+        let nodes = write_out(closed, room, &about);
+        Ok(FittedNodes { nodes, tally })
+    }
+}
+
+/// Room for so many packets.
+fn room_for(alloc: Global, count: usize) -> Result<Vec<Packet>, Memory>
+    ensures empty { IfOk result (λ v. v.items ≡ []) }
+    ensures room { IfOk result (λ v. count ≤ vec_capacity v) }
+{
+    Vec::with_capacity(alloc, count).map_err(|_| Memory)
 }
 
 fn needs_send<T: Send>(_x: &T) {}

@@ -4,12 +4,14 @@ ghost use Rattle.morton_key.specs.Keys.{IsLawful};
 ghost use Rattle.arrival_core.specs.declared.packets.TheConstants.{MOST_WORKERS};
 ghost use Rattle.arrival_core.specs.Settings.{setting};
 ghost use Rattle.arrival_core.specs.Tasks.{IsTask, FitsButFor};
-ghost use Rattle.box_handoff.specs.Packets.{AreFitted, AreLiveFitted};
+ghost use Rattle.radix_tree.specs.Table.{IsTable};
+ghost use Rattle.radix_tree.specs.Fit.{IsFitted, table_of};
+ghost use Rattle.box_handoff.specs.Packets.{AreFitted, AreLiveFitted, over_keys};
 ghost use Rattle.box_handoff.specs.Counts.{IsCounted, IsLiveCounted};
-ghost use Rattle.box_handoff.specs.Seats.{given_by, AreFresh, AreAll};
+ghost use Rattle.box_handoff.specs.Seats.{given_by, IsOver, AreFresh, AreAll};
 ghost use Rattle.box_handoff.specs.Driving.{IsReady, Climbs, WereDone};
 
-use crate::fitted::Fitted;
+use crate::fitted::{Fitted, FittedNodes};
 use crate::handoffs::Handoff;
 use crate::seats::HandSeat;
 use crate::ways::Ways;
@@ -70,6 +72,30 @@ fn climb_all<R: Threads + Sync, W: Ways, G: Gate>(
     climb_slice(rt, handoff, seats.as_mut_slice(), ways, gate)
 }
 
+/// A handoff over all keys, and its seats, each of which has climbed to its end.
+fn climbed<'a, R: Threads + Sync, W: Ways, G: Gate>(
+    rt: &R,
+    alloc: Global,
+    ways: &W,
+    gate: &G,
+    keys: &'a [Key],
+    boxes: &'a [Box3],
+    workers: u32,
+) -> Result<(Handoff<'a>, Vec<HandSeat>), Memory>
+    requires lawful { IsLawful keys.now }
+    requires two { 1 < length keys.now }
+    requires count { length boxes.now ≡ length keys.now }
+    requires some { 0 < workers }
+    requires few { workers ≤ MOST_WORKERS }
+    requires ways { W.stands ways.now keys.now }
+    ensures over { IfOk result (λ r. IsOver keys.now boxes.now workers r.0) }
+    ensures seats { IfOk result (λ r. AreAll r.0 r.1.items) }
+{
+    let (handoff, mut seats) = Handoff::fresh(alloc, keys, boxes, workers)?;
+    climb_all(rt, &handoff, &mut seats, ways, gate);
+    Ok((handoff, seats))
+}
+
 /// The packets of all children, fitted by so many workers, each with a seat in a thread of its own where there is one.
 /// `boxes[t - 1]` is the box of triangle `t`.
 ///
@@ -92,9 +118,35 @@ pub fn fit<R: Threads + Sync, W: Ways, G: Gate>(
     ensures packets { IfOk result (λ r. AreFitted keys.now boxes.now r) }
     ensures counts { IfOk result (λ r. IsCounted (length keys.now) workers r.tally) }
 {
-    let (handoff, mut seats) = Handoff::fresh(alloc, keys, boxes, workers)?;
-    climb_all(rt, &handoff, &mut seats, ways, gate);
+    let (handoff, seats) = climbed(rt, alloc, ways, gate, keys, boxes, workers)?;
     handoff.close(alloc, seats)
+}
+
+/// The inner nodes of the tree of the keys, fitted to the boxes by so many workers, each with a seat in a thread of its
+/// own where there is one: the nodes of the tree that `assemble` makes of what `fit` answers, with no list of packets
+/// between. `boxes[t - 1]` is the box of triangle `t`.
+pub fn fit_nodes<R: Threads + Sync, W: Ways, G: Gate>(
+    rt: &R,
+    alloc: Global,
+    ways: &W,
+    gate: &G,
+    keys: &[Key],
+    boxes: &[Box3],
+    workers: u32,
+) -> Result<FittedNodes, Memory>
+    requires lawful { IsLawful keys.now }
+    requires two { 1 < length keys.now }
+    requires count { length boxes.now ≡ length keys.now }
+    requires some { 0 < workers }
+    requires few { workers ≤ MOST_WORKERS }
+    requires ways { W.stands ways.now keys.now }
+    ensures table { IfOk result (λ r. IsTable (over_keys keys.now r.nodes.items)) }
+    ensures fitted { IfOk result (λ r. IsFitted (over_keys keys.now r.nodes.items) boxes.now) }
+    ensures value { IfOk result (λ r. r.nodes.items ≡ table_of keys.now boxes.now) }
+    ensures counts { IfOk result (λ r. IsCounted (length keys.now) workers r.tally) }
+{
+    let (handoff, seats) = climbed(rt, alloc, ways, gate, keys, boxes, workers)?;
+    handoff.close_nodes(alloc, seats)
 }
 
 /// The packets of the children of all live nodes, fitted by so many workers: `live` are the positions whose boxes may

@@ -1,7 +1,7 @@
 //! What a fitting run leaves.
 
 use crate::{Packet, Tally};
-use radix_tree::Tree;
+use radix_tree::{Node, Tree};
 
 /// The packets of the children of live inner nodes, in the order of the nodes' splits: at place `i` of each list stands
 /// the one of the child on that side of the node with the `i`-th live split. Where all leaves are live, that is `i`.
@@ -9,6 +9,14 @@ use radix_tree::Tree;
 pub struct Fitted {
     pub left: Vec<Packet>,
     pub right: Vec<Packet>,
+    /// The tallies of all workers, added up.
+    pub tally: Tally,
+}
+
+/// The inner nodes of a tree that workers fitted, by their numbers.
+#[derive(Debug, Drop)]
+pub struct FittedNodes {
+    pub nodes: Vec<Node>,
     /// The tallies of all workers, added up.
     pub tally: Tally,
 }

@@ -1,15 +1,17 @@
-//! Seats that have ended are made one, and the packets of a closed table are read out.
-ghost use Rattle.std.specs.Prelude.{◌≡◌, ◌<◌, ◌+◌, ◌*◌, ◌≤◌, ℕ, [], length, All, slice_index_or, vec_capacity, true, false};
+//! Seats that have ended are made one, their table is closed, and its packets are read out.
+ghost use Rattle.std.specs.Prelude.{◌≡◌, ◌<◌, ◌+◌, ◌*◌, ◌≤◌, ℕ, [], length, All, slice_index, slice_index_or, vec_capacity, true, false};
 ghost use Rattle.arrival_core.specs.declared.packets.Side.TheVariants.{Left, Right};
 ghost use Rattle.arrival_core.specs.declared.packets.TheConstants.{MOST_WORKERS};
 ghost use Rattle.box_handoff.specs.Made.{given_in};
 ghost use Rattle.box_handoff.specs.LiveNodes.{splits_of};
 ghost use Rattle.box_handoff.specs.Entries.{IsGiven, frame, numbers, given_of};
-ghost use Rattle.box_handoff.specs.Packets.{ArePacketsOf};
+ghost use Rattle.box_handoff.specs.Packets.{ArePacketsOf, child_packet};
 ghost use Rattle.box_handoff.specs.Plays.{IsSmall};
-ghost use Rattle.box_handoff.specs.Seats.{seat_fits, seat_steps};
-ghost use Rattle.box_handoff.specs.Gathering.{HasEnded, Covers, AllEnded, AreKept, fits_of, steps_of};
+ghost use Rattle.box_handoff.specs.Seats.{seat_fits, seat_steps, given_by, setting_by, AreAll, IsSumOf};
+ghost use Rattle.box_handoff.specs.Counts.{IsLiveCounted};
+ghost use Rattle.box_handoff.specs.Gathering.{HasEnded, Covers, AllEnded, AreKept, IsTaking, fits_of, steps_of};
 
+use crate::handoffs::Handoff;
 use crate::numbering::spot_of;
 use crate::plays::{Gathers, HandTable, TableSeat};
 use crate::seats::HandSeat;
@@ -20,7 +22,7 @@ use atomic_table::Closed;
 use std::alloc::Global;
 
 /// The entries of all these seats, and of the first, go to the first, and their tallies are added up.
-pub fn gather(
+fn gather(
     table: &HandTable<'_>,
     mut seats: Vec<HandSeat>,
     mut first: TableSeat,
@@ -61,6 +63,55 @@ pub fn gather(
     (first, sum)
 }
 
+/// All seats are made one, and their table is closed. The tallies are added up.
+pub fn finish<'a>(
+    handoff: Handoff<'a>,
+    mut seats: Vec<HandSeat>,
+) -> (Closed<SlotPacket, Global>, About<'a>, Tally)
+    requires seats { AreAll handoff seats.items }
+    ensures about { result.1 ≡ handoff.entry.about }
+    ensures taking { let slots = result.0.slots in
+        IsTaking (given_by handoff.entry) slots.items slots.filled slots.len 0 }
+    ensures sum { IsSumOf seats.items result.2 }
+    ensures live_counts { IsLiveCounted (setting_by handoff.entry) result.2 }
+{
+    let Handoff { table, about } = handoff;
+    let Some(last) = seats.pop() else {
+        unreachable!()
+    };
+    let HandSeat {
+        seat,
+        number: _,
+        ended: _,
+        tally: of_last,
+    } = last;
+    let (seat, tally) = gather(&table.shared, seats, seat, of_last);
+    (table.close_with(seat), about, tally)
+}
+
+/// Takes the packets of both children of the live node of a number out of a closed table.
+pub fn take_pair(
+    closed: &mut Closed<SlotPacket, Global>,
+    about: &About<'_>,
+    place: usize,
+) -> (Packet, Packet)
+    requires given { IsGiven (given_of about.now) }
+    requires taking { let slots = closed.old.slots in
+        IsTaking (given_of about.now) slots.items slots.filled slots.len place }
+    requires within { place < (numbers (given_of about.now)).count }
+    ensures taking { let slots = closed.new.slots in
+        IsTaking (given_of about.now) slots.items slots.filled slots.len (place + 1) }
+    ensures left { result.0 ≡ child_packet about.now.keys.now about.now.boxes.now
+        (slice_index (splits_of (frame (given_of about.now))) place) Left }
+    ensures right { result.1 ≡ child_packet about.now.keys.now about.now.boxes.now
+        (slice_index (splits_of (frame (given_of about.now))) place) Right }
+{
+    let split = spot_of(about, place);
+    let left = unpack(split, Side::Left, &closed.take(2 * place));
+    let right = unpack(split, Side::Right, &closed.take(2 * place + 1));
+    (left, right)
+}
+
 /// Takes every packet out of a closed table, into room that was made before, and frees the table.
 pub fn read_out(
     mut closed: Closed<SlotPacket, Global>,
@@ -70,9 +121,7 @@ pub fn read_out(
     about: &About<'_>,
 ) -> (Vec<Packet>, Vec<Packet>)
     requires given { IsGiven (given_of about.now) }
-    requires full { (k : ℕ) → k < closed.slots.len → slice_index_or closed.slots.filled k false ≡ true }
-    requires places { closed.slots.len ≡ 2 * (numbers (given_of about.now)).count }
-    requires kept { AreKept (given_of about.now) closed.slots.items }
+    requires taking { IsTaking (given_of about.now) closed.slots.items closed.slots.filled closed.slots.len 0 }
     requires count { count ≡ (numbers (given_of about.now)).count }
     requires left_empty { left.items ≡ [] }
     requires right_empty { right.items ≡ [] }
@@ -84,9 +133,9 @@ pub fn read_out(
         (length (splits_of (frame (given_of about.now)))) result.1.items }
 {
     for i in 0..count {
-        let split = spot_of(about, i);
-        left.push_reserved(unpack(split, Side::Left, &closed.take(2 * i)));
-        right.push_reserved(unpack(split, Side::Right, &closed.take(2 * i + 1)));
+        let (on_left, on_right) = take_pair(&mut closed, about, i);
+        left.push_reserved(on_left);
+        right.push_reserved(on_right);
     }
     closed.free();
     (left, right)

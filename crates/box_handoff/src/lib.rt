@@ -23,8 +23,8 @@ mod words;
 
 pub use arrival_core::{Load, Packet, Phase, Side, Tally, Up};
 pub use assembling::assemble;
-pub use driving::{fit, fit_live};
-pub use fitted::{Built, Fitted};
+pub use driving::{fit, fit_live, fit_nodes};
+pub use fitted::{Built, Fitted, FittedNodes};
 pub use handoffs::Handoff;
 pub use seats::HandSeat;
 pub use tree_ways::TreeWays;

@@ -3,7 +3,7 @@
 ghost use Rattle.std.specs.Prelude.{◌≡◌, ◌≤◌, IfOk, true, false};
 ghost use Rattle.box_handoff.specs.Seats.{given_by, IsSeatOf, AreFresh, AreAll};
 
-use crate::{Built, Fitted, HandSeat, Handoff, Packet, TreeWays, Ways, assemble, fit};
+use crate::{Built, Fitted, HandSeat, Handoff, Packet, TreeWays, Ways, assemble, fit, fit_nodes};
 use fixed_box::{Box3, Point, Tri, box_of, in_world};
 use morton_key::order;
 use outside::{Gate, Memory, OpenGate};
@@ -77,7 +77,10 @@ fn both<R: Threads + Sync + Abort, G: Gate>(
     let slow = plain(alloc, order(alloc, boxes)?, boxes)?;
     let ways = TreeWays::of(alloc, &slow)?;
     let keys = order(alloc, boxes)?;
+    let at_once = fit_nodes(rt, alloc, &ways, gate, slow.keys(), boxes, workers)?;
+    assert!(rt; at_once.nodes.as_slice() == slow.nodes());
     let fitted = fit(rt, alloc, &ways, gate, slow.keys(), boxes, workers)?;
+    assert!(rt; at_once.tally == fitted.tally);
     let tree = assemble(alloc, keys, &fitted)?;
     let built = Built {
         tree,

@@ -5,16 +5,27 @@ ghost use Rattle.morton_key.specs.Keys.{IsLawful};
 ghost use Rattle.radix_tree.specs.Table.{IsTable};
 ghost use Rattle.radix_tree.specs.Fit.{IsFitted, table_of};
 ghost use Rattle.box_handoff.specs.Counts.{IsBuildCounted};
+ghost use Rattle.box_handoff.specs.Ends.{AreEnds};
 
-use crate::{links_of, spans};
+use crate::{Links, links_of, spans};
 use arrival_core::Tally;
-use box_handoff::{Built, assemble, fit};
+use box_handoff::{Built, FittedNodes, fit_nodes};
 use fixed_box::Box3;
 use morton_key::Key;
 use outside::{Gate, Memory};
 use radix_tree::Tree;
 use std::alloc::Global;
 use std::thread::Threads;
+
+/// The way up in the tree of the keys. The spans that it is found by are gone before anything is fitted.
+fn ways_up<R: Threads + Sync>(rt: &R, alloc: Global, keys: &[Key]) -> Result<Links, Memory>
+    requires lawful { IsLawful keys.now }
+    requires two { 1 < length keys.now }
+    ensures { IfOk result (λ l. AreEnds keys.now l.ways.first.items l.ways.last.items) }
+{
+    let list = spans(rt, alloc, keys)?;
+    links_of(alloc, &list)
+}
 
 /// The tree of the keys, fitted to the boxes by so many workers: `boxes[t - 1]` is the box of triangle `t`.
 ///
@@ -45,10 +56,10 @@ pub fn build<R: Threads + Sync, G: Gate>(
             tally: Tally { fits: 0, steps: 0 },
         });
     }
-    let list = spans(rt, alloc, &keys)?;
-    let ways = links_of(alloc, &list)?;
-    let fitted = fit(rt, alloc, &ways, gate, &keys, boxes, workers)?;
-    let tally = fitted.tally;
-    let tree = assemble(alloc, keys, &fitted)?;
-    Ok(Built { tree, tally })
+    let ways = ways_up(rt, alloc, &keys)?;
+    let FittedNodes { nodes, tally } = fit_nodes(rt, alloc, &ways, gate, &keys, boxes, workers)?;
+    Ok(Built {
+        tree: Tree::of(keys, nodes),
+        tally,
+    })
 }

@@ -4,6 +4,6 @@ use Rattle.box_handoff.specs.Gathering.{IsReading}
 use Rattle.box_handoff.proofs.gathering.read_out.Given as goal
 
 abbrev pub invariant-loop-i : goal.invariant-loop-i
-invariant-loop-i l = IsReading (given_of l.about) l.initial.closed.slots.items l.closed.slots.items
-    l.closed.slots.filled l.closed.slots.len l.left.items l.right.items l.i
+invariant-loop-i l = IsReading (given_of l.about) l.closed.slots.items l.closed.slots.filled l.closed.slots.len
+    l.left.items l.right.items l.i
     × (l.count ≤ vec_capacity l.left) × (l.count ≤ vec_capacity l.right)

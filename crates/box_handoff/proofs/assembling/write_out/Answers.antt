@@ -1,0 +1,73 @@
+use Rattle.std.proofs.Common.{arith, ap, ◌∙◌, ◌<◌, ◌-◌, length}
+use Rattle.arrival_core.specs.declared.packets.Side.TheVariants.{Left, Right}
+use Rattle.radix_tree.proofs.OneTable.{table_is}
+use Rattle.box_handoff.specs.Packets.{child_packet}
+use Rattle.box_handoff.proofs.WholeFrame.{whole_count, whole_split}
+use Rattle.box_handoff.proofs.AssembleLaws.{none_written, rows_written, rows_count, right_within, all_out}
+use Rattle.box_handoff.proofs.assembling.write_out.Goals as goal
+
+pub loop-t-init : goal.loop-t-init
+loop-t-init c = record {
+  taking = c.requires.taking;
+  count = c.requires.room ∙ whole_count _ c.requires.given c.requires.whole;
+  written = none_written c.args.about.now.keys.now c.requires.whole.lawful c.args.about.now.boxes.now _;
+}
+
+pub put_rows-requires-clause-within : goal.put_rows-requires-clause-within
+put_rows-requires-clause-within c = λ less.
+    let n = whole_count _ c.requires.given c.requires.whole in
+    let lt : c.loop-t.t < length c.args.about.now.keys.now - 1
+    = omega (arith, c.loop-t-test.true, c.len-t-end.ensures, c.args.nodes.ok, c.requires.room, n) in
+    let is = c.take_pair.ensures.right
+    ∙ ap (λ s. child_packet c.args.about.now.keys.now c.args.about.now.boxes.now s Right)
+    (whole_split _ c.requires.given c.requires.whole c.loop-t.t lt) in
+    let r = right_within _ c.requires.whole.lawful _ _ _ lt is less in omega (arith, r, c.loop-t.invariant.count)
+
+pub put_rows-requires-clause-few : goal.put_rows-requires-clause-few
+put_rows-requires-clause-few c = omega (arith, c.loop-t.invariant.count, c.requires.whole.lawful.few)
+
+pub loop-t-preserved : goal.loop-t-preserved
+loop-t-preserved c =
+    let n = whole_count _ c.requires.given c.requires.whole in
+    let lt : c.loop-t.t < length c.args.about.now.keys.now - 1
+    = omega (arith, c.loop-t-test.true, c.len-t-end.ensures, c.args.nodes.ok, c.requires.room, n) in
+    let s = whole_split _ c.requires.given c.requires.whole c.loop-t.t lt in record {
+      taking = c.take_pair.ensures.taking;
+      count = rows_count _ _ c.loop-t.t c.take_pair.result.0 c.take_pair.result.1 c.put_rows.ensures
+          ∙ c.loop-t.invariant.count;
+      written = rows_written _ c.requires.whole.lawful _ _ lt c.take_pair.result.0 c.take_pair.result.1
+          (c.take_pair.ensures.left
+          ∙ ap (λ z. child_packet c.args.about.now.keys.now c.args.about.now.boxes.now z Left) s)
+          (c.take_pair.ensures.right
+          ∙ ap (λ z. child_packet c.args.about.now.keys.now c.args.about.now.boxes.now z Right) s)
+          _ _ c.loop-t.invariant.count c.put_rows.ensures c.loop-t.invariant.written;
+    }
+
+pub returns-clause-table : goal.returns-clause-table
+returns-clause-table c =
+    let n = whole_count _ c.requires.given c.requires.whole in
+    (all_out _ c.requires.whole _ _ _ _ _ c.loop-t.invariant (omega (
+      arith,
+      c.loop-t-test.false,
+      c.len-t-end.ensures,
+      c.args.nodes.ok,
+      c.requires.room,
+      n,
+    ))).table
+
+pub returns-clause-fitted : goal.returns-clause-fitted
+returns-clause-fitted c =
+    let n = whole_count _ c.requires.given c.requires.whole in
+    (all_out _ c.requires.whole _ _ _ _ _ c.loop-t.invariant (omega (
+      arith,
+      c.loop-t-test.false,
+      c.len-t-end.ensures,
+      c.args.nodes.ok,
+      c.requires.room,
+      n,
+    ))).fitted
+
+pub returns-clause-value : goal.returns-clause-value
+returns-clause-value c =
+    table_is (record { keys = c.args.about.now.keys.now; nodes = c.loop-t.nodes.items }) c.args.about.now.boxes.now
+    (returns-clause-table c) (returns-clause-fitted c)
