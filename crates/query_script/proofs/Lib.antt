@@ -1,3 +1,4 @@
 pub mod LineFaults
+pub mod WordsBefore
 pub mod SpacedNumbers
 mod Examples

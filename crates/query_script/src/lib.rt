@@ -13,6 +13,7 @@ mod keywords;
 mod limits;
 mod lines;
 mod numbers;
+mod plain_lines;
 mod reasons;
 mod replies;
 mod texts;

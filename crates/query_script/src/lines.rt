@@ -1,6 +1,7 @@
 //! A line of a script, read: one function for each step of the definition.
 
-ghost use Rattle.std.specs.Prelude.{◌≡◌, OnOk, IfOk, IfErr, drop};
+ghost use Rattle.std.specs.Prelude.{◌≡◌, OnOk, IfOk, IfErr, Some, drop};
+ghost use Rattle.text_words.specs.Lines.{words_of};
 ghost use Rattle.query_script.specs.Asks.{ask_of, counted_ask, fields_ask, point_of, keyword_of, count_of, starts_comment, IsAskable, IsWithin, IsOfLine};
 
 use crate::asks::Ask;
@@ -9,8 +10,9 @@ use crate::faults::LineFault;
 use crate::keywords::Keyword;
 use crate::limits::LINE_MOST;
 use crate::numbers::{coordinate, number};
+use crate::plain_lines::plain_ask;
 use fixed_box::{Box3, Point};
-use text_words::Words;
+use text_words::{Words, first_word};
 
 /// What a line asks, with `unit` grid steps to one unit of its coordinates, which is 1 to `UNIT_MAX`.
 ///
@@ -46,14 +48,13 @@ pub fn read_line(line: &[u8], unit: u32) -> Result<Ask, LineFault>
     if LINE_MOST < line.len() {
         return Err(LineFault::LineTooLong);
     }
-    let mut words = Words::new(line);
-    let Some(first) = words.next() else {
+    let Some((first, behind)) = first_word(line) else {
         return Ok(Ask::Nothing);
     };
     if starts_comment(first) {
         return Ok(Ask::Nothing);
     }
-    counted(keyword(first), &mut words, unit)
+    asked(keyword(first), behind, unit)
 }
 
 fn starts_comment(word: &[u8]) -> bool
@@ -118,14 +119,25 @@ fn count_of(keyword: Keyword) -> usize
     }
 }
 
-/// What a keyword and the words behind it ask.
-fn counted(keyword: Option<Keyword>, words: &mut Words, unit: u32) -> Result<Ask, LineFault>
-    ensures ask { result ≡ counted_ask unit keyword words.old }
+/// What a keyword and what stands behind it ask: at once where that is plain, else word by word.
+fn asked(keyword: Option<Keyword>, behind: &[u8], unit: u32) -> Result<Ask, LineFault>
+    ensures ask { result ≡ counted_ask unit keyword (words_of behind.now) }
     ensures askable { IfOk result IsAskable }
 {
     let Some(keyword) = keyword else {
         return Err(LineFault::UnknownWord);
     };
+    if let Some(ask) = plain_ask(keyword, behind, unit) {
+        return Ok(ask);
+    }
+    counted(keyword, &mut Words::new(behind), unit)
+}
+
+/// What a keyword and the words behind it ask.
+fn counted(keyword: Keyword, words: &mut Words, unit: u32) -> Result<Ask, LineFault>
+    ensures ask { result ≡ counted_ask unit (Some keyword) words.old }
+    ensures askable { IfOk result IsAskable }
+{
     if words.count() != count_of(keyword) {
         return Err(LineFault::WrongCount);
     }

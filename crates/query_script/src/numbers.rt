@@ -21,7 +21,8 @@ pub fn coordinate(words: &mut Words, unit: u32, bounds: Bounds) -> Result<i32, L
     coordinate_of(word, unit, bounds)
 }
 
-fn coordinate_of(word: &[u8], unit: u32, bounds: Bounds) -> Result<i32, LineFault>
+/// A word as a coordinate.
+pub fn coordinate_of(word: &[u8], unit: u32, bounds: Bounds) -> Result<i32, LineFault>
     ensures value { result ≡ coordinate_of unit bounds word.now }
     ensures within { IfOk result (Within bounds) }
 {
@@ -36,7 +37,8 @@ fn steps_of(word: &[u8], unit: u32) -> Result<i64, LineFault>
     grid(word, unit).map_err(fault_of)
 }
 
-fn within(steps: i64, bounds: Bounds) -> Result<i32, LineFault>
+/// A count of grid steps as a coordinate, where it is within its bounds.
+pub fn within(steps: i64, bounds: Bounds) -> Result<i32, LineFault>
     ensures value { result ≡ within bounds steps }
     ensures within { IfOk result (Within bounds) }
 {
@@ -73,6 +75,13 @@ pub fn number(words: &mut Words) -> Result<u64, LineFault>
     ensures rest { words.new ≡ drop 1 words.old }
 {
     let word = words.next().unwrap_or(b"");
+    number_of(word)
+}
+
+/// A word as a whole number.
+pub fn number_of(word: &[u8]) -> Result<u64, LineFault>
+    ensures { result ≡ number_of word.now }
+{
     whole(word).map_err(fault_of)
 }
 

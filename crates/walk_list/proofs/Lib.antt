@@ -13,3 +13,5 @@ pub mod Mended
 pub mod Halving
 pub mod Moved
 pub mod Refits
+pub mod Passing
+pub mod Marked

@@ -7,3 +7,4 @@ pub mod Parts
 pub mod Stale
 pub mod Reaches
 pub mod Visits
+pub mod Marks

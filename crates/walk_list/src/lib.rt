@@ -16,6 +16,7 @@ mod nearest_hit;
 mod overlapping;
 mod reaching;
 mod records;
+mod sorting;
 mod visits;
 
 pub use list::WalkList;

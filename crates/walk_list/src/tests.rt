@@ -3,6 +3,7 @@
 mod boxes;
 mod moves;
 mod segments;
+mod sorting;
 
 ghost use Rattle.std.specs.Prelude.{◌≡◌, map, All, IfOk, IsTrue};
 ghost use Rattle.fixed_box.specs.Extent.{tri_box};

@@ -1,6 +1,5 @@
 use Rattle.std.proofs.Common.{ap, subst, ◌∙◌}
 use Rattle.std.specs.List.Sorted.{IsPermutation}
-use Rattle.std.proofs.lemmas.List.Sorted.{IsNonDecreasingBy-from_sort}
 use Rattle.std.proofs.Common.{◌++◌}
 use Rattle.walk_list.specs.Leaves.{met_of}
 use Rattle.walk_list.proofs.AllLeaves.{sorted_is}
@@ -12,6 +11,6 @@ returns c = λ boxes over.
     ∙ (ap (λ xs. xs ++ met_of c.args.q.now c.leaves.result.now) c.new-numbers.ensures.items
     ∙ ap (met_of c.args.q.now) c.leaves.ensures) in
     c.new.ensures
-    ∙ sorted_is c.args.f.now boxes over c.args.q.now c.sort_unstable.new.self.items
-    (subst (λ xs. IsPermutation xs c.sort_unstable.new.self.items) found c.sort_unstable.ensures.permutation)
-    (IsNonDecreasingBy-from_sort (λ x. x) c.sort_unstable.new.self.items c.sort_unstable.ensures.sorted)
+    ∙ sorted_is c.args.f.now boxes over c.args.q.now c.sorted-numbers.result.items
+    (subst (λ xs. IsPermutation xs c.sorted-numbers.result.items) found c.sorted-numbers.ensures.same)
+    c.sorted-numbers.ensures.rising
