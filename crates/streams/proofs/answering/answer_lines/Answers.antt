@@ -21,8 +21,8 @@ returns-in_default-clause-front g c =
 pub returns-in_default-clause-partial : goal.returns-in_default-clause-partial
 returns-in_default-clause-partial g c = λ failed.
     let s = c.loop-count.session in
-    let ended = λ (front : List ℕ). all_ended g.A.Answerer.text g.A.Answerer.after c.args.answerer _ _ s.answerer s.number
-    s.line.items front s.one_line in
+    let ended = λ (front : List ℕ). all_ended g.A.Answerer.text g.A.Answerer.after c.args.answerer _ _ s.answerer
+    s.number s.line.items front s.one_line in
     gave_is_taken _ _ c.loop-count.taken _
     (gave_kept _ _ _ _ _ (gave_map _ _ _ _ _ ended c.loop-count.invariant.gave) c.in_default.ensures.bytes)
 
@@ -152,5 +152,5 @@ loop-count-preserved g c =
           (λ front. answered_more g.A.Answerer.text g.A.Answerer.after c.args.answerer _ _ _ s.answerer t.answerer
           s.number t.number s.line.items t.line.items part front did.owes did.state);
       source = c.in-Ok.ensures.cause.kept ∙ sofar.source;
-      sink = did.kept (λ no. absurd (let clash : ⊥ = cc in clash)) ∙ sofar.sink;
+      sink = did.stops.kept (λ no. absurd (let clash : ⊥ = cc in clash)) ∙ sofar.sink;
     }

@@ -57,5 +57,5 @@ loop-front-preserved g c =
         done.number,
         c.loop-front.invariant.number,
       );
-      kept = done.kept (λ no. absurd (let clash : ⊥ = cc in clash)) ∙ c.loop-front.invariant.kept;
+      kept = done.stops.kept (λ no. absurd (let clash : ⊥ = cc in clash)) ∙ c.loop-front.invariant.kept;
     }
