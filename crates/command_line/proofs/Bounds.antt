@@ -80,8 +80,8 @@ in_bounds words rs plan e =
     let workers = worker_bounds parts.workers_are in
     let unit = unit_bounds parts.unit_is in
     record {
-      input = input_bounds (length words) (first (codes "mesh")) (first (codes "grid")) (first (codes "unit")) _ plan.input
-          (λ place is. let bound = mesh_within false 0 words place is in omega arith) parts.input_is;
+      input = input_bounds (length words) (first (codes "mesh")) (first (codes "grid")) (first (codes "unit")) _
+          plan.input (λ place is. let bound = mesh_within false 0 words place is in omega arith) parts.input_is;
       some_workers = workers.0;
       few_workers = workers.1;
       some_unit = unit.0;

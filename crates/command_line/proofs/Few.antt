@@ -4,11 +4,8 @@ use Rattle.std.specs.Prelude.{filter_map}
 use Rattle.std.proofs.lemmas.Option.{option_and_then_some}
 use Rattle.text_words.specs.Numbers.{starts_minus}
 use Rattle.command_line.specs.declared.limits.TheConstants.{MOST_WORDS}
-use Rattle.command_line.specs.Parts.{Name}
-use Rattle.command_line.specs.Parts.{Item}
+use Rattle.command_line.specs.Parts.{Name, Item, Part, Part as part}
 use Rattle.command_line.specs.Parts.Item.{Mesh, Grid, Workers, Build, Unit}
-use Rattle.command_line.specs.Parts.{Part}
-use Rattle.command_line.specs.Parts.{Part as part}
 use Rattle.command_line.specs.declared.plan.Plan.{Plan}
 use Rattle.command_line.specs.Values.{option_item}
 use Rattle.command_line.specs.Items.{next_part, part_of, whole_part, joined, items_from, items_of}

@@ -5,9 +5,7 @@ use Rattle.clap.specs.Walk.{Text}
 use Rattle.fixed_box.specs.declared.shapes.TheConstants.{UNIT_MAX}
 use Rattle.obj_text.specs.declared.limits.TheConstants.{LEAST_GRID, MOST_GRID}
 use Rattle.command_line.specs.declared.limits.TheConstants.{MOST_WORKERS}
-use Rattle.command_line.specs.Parts.{Name as name}
-use Rattle.command_line.specs.Parts.{Item}
-use Rattle.command_line.specs.Parts.{Item as item}
+use Rattle.command_line.specs.Parts.{Name as name, Item, Item as item}
 use Rattle.command_line.specs.Values.{number_in, build_of}
 use Rattle.command_line.specs.Plans.{mesh_place, grid_squares, worker_count, build_named, unit_steps}
 use Rattle.command_line.specs.Uses.{Use, is_mesh}

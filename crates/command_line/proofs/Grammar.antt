@@ -6,10 +6,7 @@ use Rattle.std.proofs.lemmas.Bool.{eqb-true, or_parts}
 use Rattle.text_words.specs.Numbers.{starts_minus}
 use Rattle.clap.specs.Lexer.{long_of, has_byte}
 use Rattle.clap.specs.Walk.{Text}
-use Rattle.command_line.specs.Parts.{Name}
-use Rattle.command_line.specs.Parts.{Name as name}
-use Rattle.command_line.specs.Parts.{Item}
-use Rattle.command_line.specs.Parts.{Part as part}
+use Rattle.command_line.specs.Parts.{Name, Name as name, Item, Part as part}
 use Rattle.command_line.specs.Values.{name_of, option_item}
 use Rattle.command_line.specs.Items.{whole_part, value_part, front_part, long_part, first_part, next_part, joined, items_from}
 use Rattle.command_line.specs.Uses.{Use, is_stray, long_cut, idle_cut, open_cut, cut, has_dashes, mesh_from}
@@ -61,7 +58,8 @@ module _ (words : List Text) (place : ℕ) (items : Option (List Item)) (waiting
           (joined (long_part text) items waiting)
           (long_cut (name_of (before_first is_equals text))
           (if has_byte 61 text then Some (after_first is_equals text) else None) uses uses_waiting)
-      go true h = rw (long_with text h, h) (with_value (name_of (before_first is_equals text)) (after_first is_equals text))
+      go true h = rw (long_with text h, h)
+          (with_value (name_of (before_first is_equals text)) (after_first is_equals text))
       go false h = rw (long_alone text h, name_alone text h, h) (alone (name_of text))
 
   -- a word that begins with `-`

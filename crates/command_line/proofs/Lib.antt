@@ -6,8 +6,11 @@ pub mod EqualsSign
 pub mod Reading
 pub mod Grammar
 pub mod OneCommand
+pub mod FoundRows
+pub mod Turns
 pub mod OneWalk
 pub mod OneRun
+pub mod OneParse
 pub mod Texts
 pub mod Gathered
 pub mod SamePlan

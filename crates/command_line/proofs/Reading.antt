@@ -6,11 +6,7 @@ use Rattle.clap.specs.Walk.{Text}
 use Rattle.fixed_box.specs.declared.shapes.TheConstants.{UNIT_MAX}
 use Rattle.obj_text.specs.declared.limits.TheConstants.{LEAST_GRID, MOST_GRID}
 use Rattle.command_line.specs.declared.limits.TheConstants.{MOST_WORKERS}
-use Rattle.command_line.specs.Parts.{Name}
-use Rattle.command_line.specs.Parts.{Name as name}
-use Rattle.command_line.specs.Parts.{Item}
-use Rattle.command_line.specs.Parts.{Item as item}
-use Rattle.command_line.specs.Parts.{Part as part}
+use Rattle.command_line.specs.Parts.{Name, Name as name, Item, Item as item, Part as part}
 use Rattle.command_line.specs.Values.{number_in, build_of, option_item}
 use Rattle.command_line.specs.Items.{whole_part, joined}
 use Rattle.command_line.specs.Plans.{mesh_place}

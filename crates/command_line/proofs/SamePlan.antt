@@ -7,9 +7,7 @@ use Rattle.clap.specs.Walk.{Text, first_of}
 use Rattle.fixed_box.specs.declared.shapes.TheConstants.{UNIT_MAX}
 use Rattle.obj_text.specs.declared.limits.TheConstants.{LEAST_GRID, MOST_GRID}
 use Rattle.command_line.specs.declared.limits.TheConstants.{MOST_WORKERS, WORKERS, UNIT}
-use Rattle.command_line.specs.Parts.{Name}
-use Rattle.command_line.specs.Parts.{Name as name}
-use Rattle.command_line.specs.Parts.{Item}
+use Rattle.command_line.specs.Parts.{Name, Name as name, Item}
 use Rattle.command_line.specs.declared.plan.Build.TheVariants.{Karras}
 use Rattle.command_line.specs.declared.plan.Input.{Input}
 use Rattle.command_line.specs.declared.plan.Input.TheVariants.{Grid}
@@ -135,7 +133,8 @@ no_plan place found plan k text silent is e = go k silent is (made_of _ _ _ _ pl
     go : (k : Option Name) → SaysNothing k text → found k ≡ Some text
         → IsMadeOf (input_from (found None) (found (Some name.Grid)) (found (Some name.Unit)) place)
         (read_or WORKERS (number_in 1 MOST_WORKERS) (found (Some name.Workers)))
-        (read_or Karras build_of (found (Some name.Build))) (read_or UNIT (number_in 1 UNIT_MAX) (found (Some name.Unit)))
+        (read_or Karras build_of (found (Some name.Build)))
+        (read_or UNIT (number_in 1 UNIT_MAX) (found (Some name.Unit)))
         plan → ⊥
     go None silent is parts = no_file text _ _ place plan.input silent (rw is at parts.input_is)
     go (Some name.Grid) silent is parts = no_squares _ text _ place plan.input silent (rw is at parts.input_is)
@@ -191,4 +190,5 @@ plans_agree place (Some items) (Some us) h = go (fresh [] us) refl
 
 -- the plan of the words is the plan that is given
 pub same_plan : (words : List Text) → has_dashes words ≡ false → plan_of words ≡ given_plan words
-same_plan words plain = plans_agree (mesh_from false 0 words) (items_of words) (cut None words) (agree None 0 words plain)
+same_plan words plain =
+    plans_agree (mesh_from false 0 words) (items_of words) (cut None words) (agree None 0 words plain)

@@ -1,5 +1,5 @@
--- The words as the uses of arguments that the one command of `clap` finds, and the plan of their texts. Only private calls
--- promise this; the public clauses speak of the grammar.
+-- The words as the uses of arguments that the one command of `clap` finds, and the plan of their texts. Only private
+-- calls promise this; the public clauses speak of the grammar.
 use Rattle.std.specs.Prelude.{ℕ, ◌==◌, ◌&&◌, ◌+◌, not, Bool, true, false, if◌then◌else◌, List, [], ◌∷◌, ◌++◌, map, Option, None, Some, is_some, codes, option_map, option_and_then, slice_get}
 use Rattle.std.specs.Option.{option_map_or}
 use Rattle.std.specs.Str.{bytes_eq, chars}
@@ -61,7 +61,8 @@ long_cut None v later waiting = None
 long_cut (Some n) (Some t) later waiting = option_map (λ us. (Some n, t) ∷ us) later
 long_cut (Some n) None later waiting = waiting n
 
-abbrev pub idle_cut : Option (Text × Option Text) → Text → Option (List Use) → (Name → Option (List Use)) → Option (List Use)
+abbrev pub idle_cut : Option (Text × Option Text) → Text → Option (List Use) → (Name → Option (List Use))
+    → Option (List Use)
 idle_cut (Some p) word later waiting = long_cut (name_of p.0) p.1 later waiting
 idle_cut None word later waiting = if is_stray word then None else option_map (λ us. (None, word) ∷ us) later
 
@@ -119,8 +120,8 @@ mesh_from false place (word ∷ words) =
 
 -- the plan of what a parse finds
 abbrev pub row_plan : Option ℕ → List Row → Option Plan
-row_plan place rs = plan_from place (first_of (codes "mesh") rs) (first_of (codes "grid") rs) (first_of (codes "workers") rs) (first_of (codes "build") rs)
-    (first_of (codes "unit") rs)
+row_plan place rs = plan_from place (first_of (codes "mesh") rs) (first_of (codes "grid") rs)
+    (first_of (codes "workers") rs) (first_of (codes "build") rs) (first_of (codes "unit") rs)
 
 abbrev pub given_plan : List Text → Option Plan
 given_plan words = option_and_then (row_plan (mesh_from false 0 words)) (found words)

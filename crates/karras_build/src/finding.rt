@@ -16,8 +16,8 @@ use rayon::prelude::*;
 use std::alloc::{AllocError, Global};
 use std::thread::Threads;
 
-/// How few numbers are found in place: fewer are not worth the threads.
-pub(crate) const LEAST_LIST: usize = 8192;
+/// A shorter list is made in place: it is not worth the threads.
+pub const LEAST_LIST: usize = 8192;
 
 /// The first and the last position of the node of that number.
 fn range_of(keys: &[Key], number: usize) -> (usize, usize)

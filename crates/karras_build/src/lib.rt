@@ -16,7 +16,7 @@ mod searching;
 mod ways;
 
 pub use building::tree_by_threads;
-pub use finding::{find, spans};
+pub use finding::{LEAST_LIST, find, spans};
 pub use fitting::fit_joined;
 pub use handing_up::build;
 pub use links::{Links, links_of};

@@ -1,6 +1,6 @@
 -- Two parts of a text that stand one behind the other are one part.
 use Rattle.std.proofs.Common.{◌≡◌, ℕ, ◌+◌, ◌≤◌, List, ◌++◌, length, length-append, sym, ap, subst, ◌∙◌, arith}
-use Rattle.std.specs.Prelude.{map, Option, None, Some, IfSome}
+use Rattle.std.specs.Prelude.{map, Result, Ok, Err, IfOk}
 use Rattle.fixed_box.specs.declared.shapes.Point.{Point}
 use Rattle.text_words.specs.Joins.{JoinedLine}
 use Rattle.obj_text.specs.Sections.{renumbered, unnumbered}
@@ -79,19 +79,18 @@ both_parts unit vertices before name xs ys ps qs fs gs rs ss first second room =
           ∙ sym (names_in-append name front alone) ∙ ap (names_in name) (sym whole);
     }
 
--- the same of a part that may be there, where it is known what its lists are
-pub both_if_there : (unit vertices before : ℕ) (name : List ℕ) (xs ys all : List JoinedLine) (first second : Part)
-    (result : Option Part) → all ≡ xs ++ ys
+-- the same of a part whose lists are known
+pub part_of_both : (unit vertices before : ℕ) (name : List ℕ) (xs ys all : List JoinedLine) (first second part : Part)
+    → all ≡ xs ++ ys
     → IsPart unit vertices before name xs first.points.items first.faces.items first.runs.items
     → IsPart unit vertices (before + vertices_of xs) (last_name name xs) ys second.points.items second.faces.items
     second.runs.items
-    → IfSome result (λ part. part.points.items ≡ first.points.items ++ second.points.items)
-    → IfSome result (λ part. part.faces.items ≡ first.faces.items ++ second.faces.items)
-    → IfSome result (λ part. part.runs.items ≡ first.runs.items ++ second.runs.items)
-    → IfSome result (λ part. length part.faces.items ≤ MOST_FACES)
-    → IfSome result (λ part. IsPart unit vertices before name all part.points.items part.faces.items part.runs.items)
-both_if_there unit vertices before name xs ys all first second None e a b p f r few = tt
-both_if_there unit vertices before name xs ys all first second (Some part) e a b p f r few =
+    → part.points.items ≡ first.points.items ++ second.points.items
+    → part.faces.items ≡ first.faces.items ++ second.faces.items
+    → part.runs.items ≡ first.runs.items ++ second.runs.items
+    → length part.faces.items ≤ MOST_FACES
+    → IsPart unit vertices before name all part.points.items part.faces.items part.runs.items
+part_of_both unit vertices before name xs ys all first second part e a b p f r few =
     let points = first.points.items ++ second.points.items in
     let faces = first.faces.items ++ second.faces.items in
     let runs = first.runs.items ++ second.runs.items in
@@ -105,11 +104,11 @@ both_if_there unit vertices before name xs ys all first second (Some part) e a b
     (subst (λ k. IsPart unit vertices before name all points faces k) (sym r) whole))
 
 -- a part that may be there, of lines that differ in their numbers alone, and of as many vertices
-pub same_if_there : (unit vertices others : ℕ) (name : List ℕ) (xs ys : List JoinedLine) (result : Option Part)
-    → vertices ≡ others → map unnumbered xs ≡ map unnumbered ys
-    → IfSome result (λ part. IsPart unit vertices 0 name xs part.points.items part.faces.items part.runs.items)
-    → IfSome result (λ part. IsPart unit others 0 name ys part.points.items part.faces.items part.runs.items)
-same_if_there unit vertices others name xs ys None v e h = tt
-same_if_there unit vertices others name xs ys (Some part) v e h =
+pub same_if_there : {E : Type 0} (unit vertices others : ℕ) (name : List ℕ) (xs ys : List JoinedLine)
+    (result : Result Part E) → vertices ≡ others → map unnumbered xs ≡ map unnumbered ys
+    → IfOk result (λ part. IsPart unit vertices 0 name xs part.points.items part.faces.items part.runs.items)
+    → IfOk result (λ part. IsPart unit others 0 name ys part.points.items part.faces.items part.runs.items)
+same_if_there unit vertices others name xs ys (Err fault) v e h = tt
+same_if_there unit vertices others name xs ys (Ok part) v e h =
     subst (λ k. IsPart unit k 0 name ys part.points.items part.faces.items part.runs.items) v
     (same_part unit vertices 0 name xs ys part.points.items part.faces.items part.runs.items e h)

@@ -135,10 +135,11 @@ triangles_keep name vertices before triangles (x ∷ y ∷ z ∷ words) =
 abbrev NoGroup : List ℕ → Type 0
 NoGroup keyword = bytes_eq keyword (codes "g") || bytes_eq keyword (codes "o") ≡ false
 
--- neither `v` nor `f` begins one
+-- `v` begins none
 vertex_no_group : (keyword : List ℕ) → bytes_eq keyword (codes "v") ≡ true → NoGroup keyword
 vertex_no_group keyword e = subst NoGroup (sym ((bytes_eq-Decides keyword (codes "v")).0 e)) refl
 
+-- nor does `f`
 triangles_no_group : (keyword : List ℕ) → bytes_eq keyword (codes "f") ≡ true → NoGroup keyword
 triangles_no_group keyword e = subst NoGroup (sym ((bytes_eq-Decides keyword (codes "f")).0 e)) refl
 

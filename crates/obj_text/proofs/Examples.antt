@@ -44,6 +44,7 @@ heights_of_two : map (λ point. point.z) (field_points 2) ≡ map pos (0 ∷ 73 
 unfolding field_points row_points vertex_at
 heights_of_two = refl
 
+-- their last corner
 last_point_of_two : vertex_at 2 2 ≡ record { x = negsuc 65023; y = negsuc 65023; z = pos 564 }
 unfolding vertex_at
 last_point_of_two = refl
@@ -55,5 +56,6 @@ faces_of_two
 unfolding field_faces row_faces square_faces
 faces_of_two = refl
 
+-- the height past its limit
 height_past_the_limit : height_at 8 8 ≡ 576
 height_past_the_limit = refl

@@ -11,16 +11,19 @@ use Rattle.obj_text.specs.declared.limits.TheConstants.{MOST_FACES}
 use Rattle.obj_text.specs.declared.fault.Why.{Why}
 use Rattle.obj_text.specs.declared.fault.Why.TheVariants.{TooFewWords, TooManyTriangles}
 
+-- a list within the limit is taken
 few_enough : (faces : List Face) → length faces ≤ MOST_FACES → few faces ≡ Ok faces
 few_enough faces p =
     let e : nat_le (length faces) MOST_FACES ≡ true = grind (arith, p) in
     ap (λ k. cond k (Ok faces) (Err TooManyTriangles)) e
 
+-- a longer one is refused
 too_many : (faces : List Face) → MOST_FACES < length faces → few faces ≡ Err TooManyTriangles
 too_many faces p =
     let e : nat_le (length faces) MOST_FACES ≡ false = grind (arith, p) in
     ap (λ k. cond k (Ok faces) (Err TooManyTriangles)) e
 
+-- the same, by the corners behind it
 next_by : (faces : List Face) (first last next more : ℕ) (corners : Result (List ℕ) Why)
     → onward (onward corners (λ all. Ok (more ∷ all))) (λ all. few (faces ++ fan_from first last (next ∷ all)))
     ≡ onward corners (λ all. few ((faces ++ record { a = first; b = last; c = next } ∷ []) ++ fan_from first next (more ∷ all)))
@@ -38,6 +41,7 @@ fan_next vertices before first last next more faces word words e =
     (λ all. few (faces ++ fan_from first last (next ∷ all)))) e
     ∙ next_by faces first last next more (positions_of vertices before words)
 
+-- the same, by whether a triangle was refused and by the corners behind it
 past_by : (over : Bool) (faces : List Face) (first last next more : ℕ) (corners : Result (List ℕ) Why)
     → MOST_FACES ≤ length faces
     → onward (onward corners (λ all. Ok (more ∷ all)))
@@ -83,12 +87,14 @@ fan_full vertices before first last next false faces p =
     let face : List Face = record { a = first; b = last; c = next } ∷ [] in
     too_many (faces ++ face) (omega (arith, p, length-append faces face))
 
+-- a mesh takes the triangles of a line where there is room
 same_by : (k : Bool) (faces more : List Face)
     → extended faces (cond k (Ok (Triangles more)) (Err TooManyTriangles))
     ≡ cond k (Ok (faces ++ more)) (Err TooManyTriangles)
 same_by true faces more = refl
 same_by false faces more = refl
 
+-- the same, by the first three corners and those behind them
 line_by : (faces : List Face) (a b c : Result ℕ Why) (corners : Result (List ℕ) Why)
     → extended faces (onward
     (onward a (λ x. onward (onward b (λ y. onward (onward c (λ z. onward corners (λ all. Ok (z ∷ all))))
@@ -155,6 +161,7 @@ few_corners vertices before (x ∷ []) p = refl
 few_corners vertices before (x ∷ y ∷ []) p = refl
 few_corners vertices before (x ∷ y ∷ z ∷ words) p = absurd (omega (arith, p))
 
+-- nor do fewer than three words give a vertex
 pub few_coordinates : (unit before : ℕ) (words : List (List ℕ)) → length words < 3
     → vertex_of unit before words ≡ Err TooFewWords
 few_coordinates unit before [] p = refl
@@ -170,6 +177,7 @@ fan_is_line faces outcome rest (Ok done) e p = tt
 fan_is_line faces outcome rest (Err (Faulty why)) e p = extended_fault faces outcome why (e ∙ p)
 fan_is_line faces outcome rest (Err Memory) e p = tt
 
+-- triangles are added where there is room
 few_by : (k : Bool) (points : List Point) (faces more all : List Face) (name : List ℕ)
     → extended faces (cond k (Ok (Triangles more)) (Err TooManyTriangles)) ≡ Ok all
     → IsAdded (cond k (Ok (Triangles more)) (Err TooManyTriangles)) points points faces all name name
@@ -178,6 +186,7 @@ few_by true points faces more all name e =
     record { points_are = sym (append-nil points); faces_are = sym same; name_is = refl }
 few_by false points faces more all name e = absurd (cc)
 
+-- so are those of corners that are read
 added_by : (corners : Result (List ℕ) Why) (points : List Point) (faces all : List Face) (name : List ℕ)
     → extended faces (onward corners (λ cs. more_triangles (length faces) (fan cs))) ≡ Ok all
     → IsAdded (onward corners (λ cs. more_triangles (length faces) (fan cs))) points points faces all name name

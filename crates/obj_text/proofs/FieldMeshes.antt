@@ -26,6 +26,7 @@ length-field_points side =
     length-rows (row_points side) (side + 1)
     (λ row. length-map-range_with_len (λ column. vertex_at column row) 0 (side + 1)) (side + 1) 0
 
+-- a row has two triangles to each square
 length-row_faces : (side row : ℕ) → length (row_faces side row) ≡ side * 2
 unfolding row_faces square_faces
 length-row_faces side row =
@@ -36,10 +37,12 @@ pub length-field_faces : (side : ℕ) → length (field_faces side) ≡ side * (
 unfolding field_faces
 length-field_faces side = length-rows (row_faces side) (side * 2) (length-row_faces side) side 0
 
+-- a field has no more points than a mesh
 pub few_points : (side : ℕ) → side ≤ MOST_GRID → length (field_points side) ≤ MOST_POINTS
 few_points side p =
     omega (arith, length-field_points side, mul-le (side + 1) (side + 1) 513 513 (omega arith) (omega arith))
 
+-- nor more triangles
 pub few_faces : (side : ℕ) → side ≤ MOST_GRID → length (field_faces side) ≤ MOST_FACES
 few_faces side p =
     omega (arith, length-field_faces side, mul-le side (side * 2) 512 1024 (omega arith) (omega arith))
@@ -48,6 +51,7 @@ few_faces side p =
 along_in_world : (number : ℕ) → number ≤ MOST_GRID → IsCoordinate (along number)
 along_in_world number p = record { low = omega (arith, ints); high = omega (arith, ints) }
 
+-- so does a corner
 vertex_in_world : (column row : ℕ) → column ≤ MOST_GRID → row ≤ MOST_GRID → InWorld (vertex_at column row)
 unfolding vertex_at
 vertex_in_world column row p q = record {
@@ -56,6 +60,7 @@ vertex_in_world column row p q = record {
   z = record { low = omega (arith, ints); high = omega (arith, ints) };
 }
 
+-- so do all corners
 points_in_world : (side : ℕ) → side ≤ MOST_GRID → All InWorld (field_points side)
 unfolding field_points row_points
 points_in_world side p =
@@ -72,6 +77,7 @@ place_within side column row p q =
     mul-le (row + 1) (side + 1) (side + 1) (side + 1) (omega arith) (omega arith) in
     omega (arith, last)
 
+-- the triangles of a square name corners of the field
 square_named : (side column row : ℕ) → column < side → row < side
     → All (IsFaceOf ((side + 1) * (side + 1))) (square_faces side column row)
 unfolding square_faces
@@ -94,6 +100,7 @@ square_named side column row p q =
     All-cons P lower (upper ∷ []) (record { a = near; b = beside; c = across })
     (All-cons P upper [] (record { a = near; b = across; c = above }) (All-nil P))
 
+-- so do all triangles
 faces_named : (side : ℕ) → All (IsFaceOf ((side + 1) * (side + 1))) (field_faces side)
 unfolding field_faces row_faces
 faces_named side =

@@ -6,6 +6,7 @@ use Rattle.std.proofs.lemmas.List.Elements.{filter-append}
 use Rattle.std.specs.Cmp.Lexicographic.{bytes_decides}
 use Rattle.obj_text.specs.Groups.{first_seen, with_name}
 
+-- names that a test takes as equal are equal
 equal_names : (x y : List ℕ) → bytes_eq x y ≡ true → x ≡ y
 equal_names x y e = (bytes_decides x y).0 e
 
@@ -13,12 +14,14 @@ equal_names x y e = (bytes_decides x y).0 e
 pub same_name : (x : List ℕ) → bytes_eq x x ≡ true
 same_name x = (bytes_decides x x).1 refl
 
+-- the same the other way round, by that test
 not_same_by : (k : Bool) (x y : List ℕ) → bytes_eq x y ≡ k → bytes_eq y x ≡ false → k ≡ false
 not_same_by false x y e f = refl
 not_same_by true x y e f =
     let same : bytes_eq y x ≡ true = ap (λ k. bytes_eq k x) (sym (equal_names x y e)) ∙ same_name x in
     absurd (cc)
 
+-- names that differ do so either way
 not_same : (x y : List ℕ) → bytes_eq y x ≡ false → bytes_eq x y ≡ false
 not_same x y e = not_same_by (bytes_eq x y) x y refl e
 
@@ -29,6 +32,7 @@ any_by : (k m : Bool) (z y : List ℕ) (names : List (List ℕ)) (kept : List (L
 any_by true m z y names kept e f g = g ∙ sym (ap (λ b. b || list_any (bytes_eq y) names) (e ∙ f refl))
 any_by false m z y names kept e f g = ap (λ b. bytes_eq y z || b) g
 
+-- a name that differs from one differs from its equals
 differs : (x y z : List ℕ) → bytes_eq y x ≡ false → bytes_eq x z ≡ true → bytes_eq y z ≡ false
 differs x y z e f = ap (bytes_eq y) (sym (equal_names x z f)) ∙ e
 
@@ -44,6 +48,7 @@ any_other x y (z ∷ names) e =
 abbrev others : List ℕ → List (List ℕ) → List (List ℕ)
 others x names = filter (λ other. not (bytes_eq x other)) names
 
+-- of one other name that name is left, or none
 kept_by : (k : Bool) (x y : List ℕ) → bytes_eq x y ≡ k → others x (y ∷ []) ≡ cond k [] (y ∷ [])
 kept_by true x y e = ap (λ k. cond (not k) (y ∷ []) []) e
 kept_by false x y e = ap (λ k. cond (not k) (y ∷ []) []) e

@@ -6,6 +6,7 @@ use Rattle.std.specs.Str.{bytes_eq}
 use Rattle.std.specs.List.{All}
 use Rattle.std.proofs.lemmas.List.Elements.{All-cons, All-nil, All-head, All-tail}
 use Rattle.std.proofs.lemmas.Int.{ints}
+use Rattle.std.proofs.lemmas.Bool.{and_parts}
 use Rattle.std.proofs.lemmas.Bool.Decides.{nat_tests}
 use Rattle.fixed_box.specs.World.{IsCoordinate, InWorld}
 use Rattle.fixed_box.specs.declared.shapes.Point.{Point}
@@ -33,26 +34,25 @@ pub onward_ok : {A B : Type 0} (o : Result A Why) (f : A → Result B Why) (y : 
 onward_ok (Err why) f y e = absurd (cc)
 onward_ok (Ok x) f y e = (x, refl, e)
 
+-- a choice that gives a value holds, and gives that value
 cond_ok : {A : Type 0} (k : Bool) (x : A) (why : Why) (y : A) → cond k (Ok x) (Err why) ≡ Ok y → (k ≡ true) × (x ≡ y)
 cond_ok true x why y e = (refl, cc)
 cond_ok false x why y e = absurd (cc)
-
-both_true : (a b : Bool) → a && b ≡ true → (a ≡ true) × (b ≡ true)
-both_true true b e = (refl, e)
-both_true false b e = absurd (cc)
 
 -- a number that is kept in the world is a coordinate
 in_world_is : (x y : ℤ) → in_world x ≡ Ok y → IsCoordinate y
 in_world_is x y e =
     let t = cond_ok (int_le (neg_ℤ HALF) x && int_lt x HALF) x Outside y e in
-    let b = both_true (int_le (neg_ℤ HALF) x) (int_lt x HALF) t.0 in
+    let b = and_parts (int_le (neg_ℤ HALF) x) (int_lt x HALF) t.0 in
     subst IsCoordinate t.1 (record { low = grind (arith, ints, b.0); high = grind (arith, ints, b.1) })
 
+-- so is one that is read
 by_grid : (r : Result ℤ NumberFault) (y : ℤ) → coordinate r ≡ Ok y → IsCoordinate y
 by_grid (Ok x) y e = in_world_is x y e
 by_grid (Err NumberFault.NotANumber) y e = absurd (cc)
 by_grid (Err NumberFault.TooLong) y e = absurd (cc)
 
+-- a point that is read is in the world
 point_is : (unit : ℕ) (x y z : List ℕ) (p : Point) → point_of unit x y z ≡ Ok p → InWorld p
 point_is unit x y z p e =
     let s = onward_ok (coordinate_of unit x) _ p e in
@@ -71,13 +71,14 @@ by_sign : (vertices before number k : ℕ) (minus : Bool) → before ≤ vertice
     → position vertices before minus number ≡ Ok k → k < vertices
 by_sign vertices before number k true few e =
     let t = cond_ok (nat_lt 0 number && nat_le number before) (before - number) NoSuchVertex k e in
-    let b = both_true (nat_lt 0 number) (nat_le number before) t.0 in
+    let b = and_parts (nat_lt 0 number) (nat_le number before) t.0 in
     grind (arith, nat_tests, b.0, b.1, t.1, few)
 by_sign vertices before number k false few e =
     let t = cond_ok (nat_lt 0 number && nat_le number vertices) (number - 1) NoSuchVertex k e in
-    let b = both_true (nat_lt 0 number) (nat_le number vertices) t.0 in
+    let b = and_parts (nat_lt 0 number) (nat_le number vertices) t.0 in
     grind (arith, nat_tests, b.0, b.1, t.1)
 
+-- so is a word of the form of a reference
 by_form : (is minus : Bool) (vertices before number k : ℕ) → before ≤ vertices
     → cond is (position vertices before minus number) (Err BadReference) ≡ Ok k → k < vertices
 by_form true minus vertices before number k few e = by_sign vertices before number k minus few e
@@ -97,6 +98,7 @@ positions_are vertices before (word ∷ words) corners few e =
     (by_form (is_reference word) (starts_minus word) vertices before
     (value_after 0 (digits_of (past_sign word))) s.0 few s.1) (positions_are vertices before words t.0 few t.1))
 
+-- a fan of corners of the text is of faces of the text
 fan_from_is : (vertices first last : ℕ) (corners : List ℕ) → first < vertices → last < vertices
     → All (λ k. k < vertices) corners → All (IsFaceOf vertices) (fan_from first last corners)
 fan_from_is vertices first last [] f l all = All-nil (IsFaceOf vertices)
@@ -115,6 +117,7 @@ fan_is vertices (first ∷ second ∷ corners) all =
     fan_from_is vertices first second corners (All-head (λ k. k < vertices) first (second ∷ corners) all)
     (All-head (λ k. k < vertices) second corners rest) (All-tail (λ k. k < vertices) second corners rest)
 
+-- a vertex more fits where fewer stand before it
 vertex_fits : (before : ℕ) → nat_lt before MOST_POINTS ≡ true → before + 1 ≤ MOST_POINTS
 vertex_fits before e = grind (arith, nat_tests, e)
 
@@ -138,6 +141,7 @@ vertex_is unit vertices before triangles (x ∷ y ∷ z ∷ words) given few e =
       },
     )
 
+-- no vertex more fits always
 no_more : (before : ℕ) → before ≤ MOST_POINTS → before + 0 ≤ MOST_POINTS
 no_more before room = omega (arith, room)
 
@@ -176,6 +180,7 @@ neither vertices before triangles given f e g = (
   },
 )
 
+-- the same, by the tests of the first word
 by_keyword : (unit vertices before triangles : ℕ) (words : List (List ℕ)) (given : Given) (v f g : Bool)
     → before ≤ vertices → triangles ≤ MOST_FACES
     → cond v (vertex_of unit before words) (cond f (triangles_of vertices before triangles words)

@@ -6,12 +6,14 @@ use Rattle.std.specs.List.{All, list_any, position_or_len}
 use Rattle.std.proofs.lemmas.List.{map-append, length-map, length-replicate}
 use Rattle.std.proofs.lemmas.List.Elements.{All-cons, All-nil, All-head, All-tail, All-append, All-replicate}
 use Rattle.std.proofs.lemmas.List.Folds.{position_or_len_push}
+use Rattle.std.proofs.lemmas.Bool.{or_right}
 use Rattle.std.proofs.lemmas.Bool.Decides.{nat_tests}
 use Rattle.obj_text.specs.Groups.{first_seen, places_in, with_name}
 use Rattle.obj_text.specs.Steps.{groups_with}
 use Rattle.obj_text.proofs.FirstSeen.{same_name, first_seen-push}
 use Rattle.obj_text.specs.Meshes.{IsPlaceIn}
 
+-- a place behind one more name is within, by whether it is that one
 place_by : (k seen : Bool) (n size : ℕ) → k || seen ≡ true → (seen ≡ true → n < size)
     → cond (not k) (1 + n) 0 < suc size
 place_by true seen n size e f = omega arith
@@ -25,14 +27,12 @@ place_of_seen p [] e = absurd (cc)
 place_of_seen p (x ∷ names) e =
     place_by (p x) (list_any p names) (position_or_len p names) (length names) e (place_of_seen p names)
 
-or_true : (a b : Bool) → b ≡ true → a || b ≡ true
-or_true true b e = refl
-or_true false b e = e
-
+-- some name is found where the last is
 any_last : (p : List ℕ → Bool) (names : List (List ℕ)) (y : List ℕ) → p y ≡ true → list_any p (names ++ y ∷ []) ≡ true
 any_last p [] y e = ap (λ k. k || false) e
-any_last p (x ∷ names) y e = or_true (p x) (list_any p (names ++ y ∷ [])) (any_last p names y e)
+any_last p (x ∷ names) y e = or_right (p x) (list_any p (names ++ y ∷ [])) (any_last p names y e)
 
+-- a name is there once it is put behind those among which it is not
 seen_by : (k : Bool) (names : List (List ℕ)) (y : List ℕ) → list_any (bytes_eq y) names ≡ k
     → list_any (bytes_eq y) (cond k names (names ++ y ∷ [])) ≡ true
 seen_by true names y e = e
@@ -47,14 +47,17 @@ with_name_again : (names : List (List ℕ)) (y : List ℕ) → with_name (with_n
 with_name_again names y =
     ap (λ k. cond k (with_name names y) (with_name names y ++ y ∷ [])) (now_seen names y)
 
+-- the same, by whether the name was there
 grown_by : (k : Bool) (names : List (List ℕ)) (y : List ℕ)
     → length names ≤ length (cond k names (names ++ y ∷ []))
 grown_by true names y = omega arith
 grown_by false names y = omega (arith, length-append names (y ∷ []))
 
+-- no fewer names are there with one put there
 more_names : (names : List (List ℕ)) (y : List ℕ) → length names ≤ length (with_name names y)
 more_names names y = grown_by (list_any (bytes_eq y) names) names y
 
+-- the same, by whether the name was there
 pushed_by : (k : Bool) (p : List ℕ → Bool) (names : List (List ℕ)) (y : List ℕ)
     → position_or_len p names < length names
     → position_or_len p (cond k names (names ++ y ∷ [])) ≡ position_or_len p names
@@ -81,10 +84,12 @@ places_stay groups y (x ∷ names) all =
     ∙ ap (λ k. place ∷ k) (places_stay groups y names (All-tail (IsPlaceIn (length groups)) place
     (places_in groups names) all))
 
+-- what is made of equal names is equal
 map_replicate : (f : List ℕ → ℕ) (n : ℕ) (y : List ℕ) → map f (replicate n y) ≡ replicate n (f y)
 map_replicate f zero y = refl
 map_replicate f (suc n) y = ap (λ k. f y ∷ k) (map_replicate f n y)
 
+-- of equal names behind others one is put there
 seen_more : (n : ℕ) (names : List (List ℕ)) (y : List ℕ)
     → first_seen (names ++ replicate (suc n) y) ≡ with_name (first_seen names) y
 seen_more zero names y = first_seen-push names y
@@ -94,6 +99,7 @@ seen_more (suc n) names y =
     ∙ ap (λ k. with_name k y) (first_seen-push names y)
     ∙ with_name_again (first_seen names) y
 
+-- places among some names are places among more
 wider : (n m : ℕ) (places : List ℕ) → n ≤ m → All (IsPlaceIn n) places → All (IsPlaceIn m) places
 wider n m [] p all = All-nil (IsPlaceIn m)
 wider n m (k ∷ places) p all =
@@ -107,11 +113,13 @@ pub record IsGrouped (names groups : List (List ℕ)) (group_of : List ℕ) : Ty
   pub within : All (IsPlaceIn (length groups)) group_of
   pub few : length groups ≤ length group_of
 
+-- at most one name is put there
 few_more : (k : Bool) (groups : List (List ℕ)) (y : List ℕ)
     → length (cond k groups (groups ++ y ∷ [])) ≤ length groups + 1
 few_more true groups y = omega arith
 few_more false groups y = omega (arith, length-append groups (y ∷ []))
 
+-- faces of one name more are grouped
 more_grouped : (names groups : List (List ℕ)) (group_of : List ℕ) (n : ℕ) (y : List ℕ)
     → IsGrouped names groups group_of
     → IsGrouped (names ++ replicate (suc n) y) (with_name groups y)

@@ -1,6 +1,7 @@
 -- References in digits alone.
 use Rattle.std.proofs.Common.{◌≡◌, ◌<◌, ◌≤◌, ◌+◌, ◌-◌, ◌*◌, ◌^◌, min, nat_lt, ℕ, Bool, true, false, List, [], ◌∷◌, ◌==◌, ◌||◌, ◌&&◌, cond, IsTrue, drop, refl, sym, ap, ◌∙◌, arith, Err}
 use Rattle.std.specs.List.{list_all}
+use Rattle.std.proofs.lemmas.Bool.{and_parts}
 use Rattle.std.proofs.lemmas.Bool.Decides.{nat_tests}
 use Rattle.text_words.specs.Lines.{is_word}
 use Rattle.text_words.specs.Numbers.{is_digit, value_after, digits_of, past_digits, past_sign}
@@ -10,26 +11,25 @@ use Rattle.obj_text.specs.Steps.{all_three, first_corners_of}
 use Rattle.obj_text.specs.declared.limits.TheConstants.{GREATEST_NUMBER}
 use Rattle.obj_text.specs.declared.fault.Why.TheVariants.{BadReference}
 
-both : (x y : Bool) → (x && y) ≡ true → (x ≡ true) × (y ≡ true)
-both true y e = (refl, e)
-both false y e = absurd (cc)
-
 -- digits alone are all digits, and nothing follows them
 digits_alone : (word : List ℕ) → IsTrue (list_all is_digit word) → (digits_of word ≡ word) × (past_digits word ≡ [])
 digits_alone [] p = (refl, refl)
 digits_alone (b ∷ bs) p =
-    let q = both (is_digit b) (list_all is_digit bs) p in
+    let q = and_parts (is_digit b) (list_all is_digit bs) p in
     let r = digits_alone bs q.1 in (
       ap (λ k. cond k (b ∷ digits_of bs) []) q.0 ∙ ap (λ k. b ∷ k) r.0,
       ap (λ k. cond k (past_digits bs) (b ∷ bs)) q.0 ∙ r.1,
     )
 
+-- a digit is no sign
 sign_by : (b : ℕ) (k : Bool) → is_digit b ≡ true → (b == 43 || b == 45) ≡ k → k ≡ false
 sign_by b k e f = grind (arith, nat_tests, e, f)
 
+-- nor a minus
 minus_by : (b : ℕ) (k : Bool) → is_digit b ≡ true → (b == 45) ≡ k → k ≡ false
 minus_by b k e f = grind (arith, nat_tests, e, f)
 
+-- digits alone name the vertex of their number
 named_by : (vertices before : ℕ) (b : ℕ) (bs size : List ℕ) (minus : Bool) → size ≡ b ∷ bs
     → digits_of (b ∷ bs) ≡ b ∷ bs → past_digits (b ∷ bs) ≡ [] → minus ≡ false
     → cond (is_word (digits_of size) && at_most_two_parts (past_digits size))
@@ -49,13 +49,14 @@ pub number_names : (vertices before n : ℕ) (word : List ℕ) → IsNumber word
     → position_of vertices before word ≡ position vertices 0 false n
 number_names vertices before n [] p = absurd (omega (arith, p.some))
 number_names vertices before n (b ∷ bs) p =
-    let q = both (is_digit b) (list_all is_digit bs) p.digits in
+    let q = and_parts (is_digit b) (list_all is_digit bs) p.digits in
     let r = digits_alone (b ∷ bs) p.digits in
     let sign : past_sign (b ∷ bs) ≡ b ∷ bs =
     ap (λ k. cond k bs (b ∷ bs)) (sign_by b (b == 43 || b == 45) q.0 refl) in
     named_by vertices before b bs (past_sign (b ∷ bs)) (b == 45) sign r.0 r.1 (minus_by b (b == 45) q.0 refl)
     ∙ ap (position vertices 0 false) (sym p.value)
 
+-- so do three words
 three_by : (vertices before a b c : ℕ) (x y z : List ℕ) → IsNumber x a → IsNumber y b → IsNumber z c
     → all_three (position_of vertices before x) (position_of vertices before y) (position_of vertices before z)
     ≡ all_three (position vertices 0 false a) (position vertices 0 false b) (position vertices 0 false c)
@@ -81,6 +82,7 @@ value_grows : (n : ℕ) (word : List ℕ) → n ≤ value_after n word
 value_grows n [] = omega arith
 value_grows n (b ∷ bs) = omega (arith, value_grows (n * 10 + (b - 48)) bs)
 
+-- a number is cut off alike after any digits, by whether it is small
 cut_by : (a b : ℕ) (ds : List ℕ) (few : Bool) → nat_lt a (10 ^ 18) ≡ few → b ≡ value_after a ds → (a < 10 ^ 18 → a ≡ b)
     → min b GREATEST_NUMBER ≡ min a GREATEST_NUMBER
 cut_by a b ds true e all whole =

@@ -42,6 +42,7 @@ parted : (k : ℕ) (text at_x at_y at_z x y z rest : List ℕ) → text ≡ k �
 parted k text at_x at_y at_z x y z rest e f g h =
     e ∙ ap (λ t. k ∷ 32 ∷ t) (f ∙ ap (λ t. x ++ 32 ∷ t) (g ∙ ap (λ t. y ++ 32 ∷ t) h))
 
+-- the same of a text that is known in parts
 row_of : (k : ℕ) (text at_x at_y at_z x y z rest : List ℕ) → text ≡ k ∷ 32 ∷ at_x → at_x ≡ x ++ 32 ∷ at_y
     → at_y ≡ y ++ 32 ∷ at_z → at_z ≡ z ++ 10 ∷ rest → IsPlainWord (k ∷ []) → IsPlainWord x → IsPlainWord y
     → IsPlainWord z → BeginsWithLine text ((k ∷ []) ∷ x ∷ y ∷ z ∷ []) rest
@@ -49,9 +50,11 @@ row_of k text at_x at_y at_z x y z rest e f g h keyword p q r =
     subst (λ t. BeginsWithLine t ((k ∷ []) ∷ x ∷ y ∷ z ∷ []) rest)
     (sym (parted k text at_x at_y at_z x y z rest e f g h)) (row k x y z rest keyword p q r)
 
+-- `v` is a plain word
 v_plain : IsPlainWord (118 ∷ [])
 v_plain = record { some = omega arith; unbroken = refl; one = refl; plain = refl }
 
+-- so is `f`
 f_plain : IsPlainWord (102 ∷ [])
 f_plain = record { some = omega arith; unbroken = refl; one = refl; plain = refl }
 
@@ -104,6 +107,7 @@ lines_fit number text words rest p few = omega (arith, few, lines_left text word
 
 -- ---- what such lines give
 
+-- three coordinates of a point give a vertex
 vertex_known : (unit before : ℕ) (x y z : List ℕ) (point : Point) → point_of unit x y z ≡ Ok point
     → before < MOST_POINTS → vertex_of unit before (x ∷ y ∷ z ∷ []) ≡ Ok (Vertex point)
 vertex_known unit before x y z point e room =
@@ -111,6 +115,7 @@ vertex_known unit before x y z point e room =
     ap (λ k. onward k (one_more_vertex before)) e
     ∙ ap (λ k. cond k (Ok (Vertex point)) (Err TooManyVertices)) test
 
+-- a list has none behind it
 append_none : {A : Type 0} (xs : List A) → xs ≡ xs ++ []
 append_none xs = sym (append-nil xs)
 

@@ -74,6 +74,7 @@ given_read unit vertices before first lines line left points faces names name gi
       few_faces = omega (arith, length-append faces (faces_of given), is.1.few_faces);
     }
 
+-- the same, by what the line gives
 added_by : (unit vertices before : ℕ) (first : List ℕ) (lines : List JoinedLine) (line : JoinedLine)
     (left : List JoinedLine) (points more_points : List Point) (faces more_faces : List Face)
     (names : List (List ℕ)) (name next : List ℕ) (outcome : Result Given Why)

@@ -1,13 +1,13 @@
 //! A whole text, read into a mesh: as one part, or in parts by several threads where it is long.
 
-ghost use Rattle.std.specs.Prelude.{◌≡◌, ◌≤◌, length, Ok, IfOk, IfErr, IfSome};
+ghost use Rattle.std.specs.Prelude.{◌≡◌, ◌≤◌, length, Ok, IfOk, IfErr};
 ghost use Rattle.obj_text.specs.Texts.{mesh_of, IsRefusalOf};
 
 use crate::fault::MeshFault;
 use crate::limits::MOST_BYTES;
 use crate::mesh::Mesh;
 use crate::part::{mesh_of_part, read_part};
-use crate::split::read_apart;
+use crate::split::{PartsFault, read_apart};
 use crate::vertex_count::VertexCount;
 use fixed_box::UNIT_MAX;
 use std::alloc::Global;
@@ -39,15 +39,23 @@ pub fn read_mesh(alloc: Global, bytes: &[u8], unit: u32) -> Result<Mesh, MeshFau
     }
 }
 
-/// Reads a long text in parts. `None` where it has a fault, and where memory fails.
-fn read_long<R: Threads + Sync>(rt: &R, alloc: Global, bytes: &[u8], unit: u32) -> Option<Mesh>
+/// Reads a long text in parts.
+fn read_long<R: Threads + Sync>(
+    rt: &R,
+    alloc: Global,
+    bytes: &[u8],
+    unit: u32,
+) -> Result<Mesh, PartsFault>
     requires few { length bytes.now ≤ MOST_BYTES }
     requires least_unit { 1 ≤ unit }
     requires greatest_unit { unit ≤ UNIT_MAX }
-    ensures { IfSome result (λ mesh. mesh_of unit bytes.now ≡ Ok mesh) }
+    ensures { IfOk result (λ mesh. mesh_of unit bytes.now ≡ Ok mesh) }
 {
     let part = read_apart(rt, alloc, bytes, unit, LEVELS)?;
-    mesh_of_part(alloc, part).ok()
+    match mesh_of_part(alloc, part) {
+        Ok(mesh) => Ok(mesh),
+        Err(_) => Err(PartsFault::Memory),
+    }
 }
 
 /// Reads a mesh text as `read_mesh` does, with the same answer: a long one in parts, by several threads.
@@ -70,7 +78,8 @@ pub fn read_mesh_by_threads<R: Threads + Sync>(
         return read_mesh(alloc, bytes, unit);
     }
     match read_long(rt, alloc, bytes, unit) {
-        Some(mesh) => Ok(mesh),
-        None => read_mesh(alloc, bytes, unit),
+        Ok(mesh) => Ok(mesh),
+        // as one, which tells the first fault and wants less memory
+        Err(PartsFault::Faulty | PartsFault::Memory) => read_mesh(alloc, bytes, unit),
     }
 }

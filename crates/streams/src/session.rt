@@ -3,10 +3,10 @@
 
 ghost use Rattle.std.specs.Prelude.{◌≡◌, ◌≤◌, ◌<◌, ◌+◌, ◌^◌, ◌++◌, [], true, ℕ, List, Bool, length, IfOk, OnOk, OnErr, IsErrOf};
 ghost use Rattle.std.specs.Io.KnownBytes.{Appends};
-ghost use Rattle.outside.specs.Causes.{Rose};
 ghost use Rattle.text_words.specs.Lines.{IsOneLine};
 ghost use Rattle.streams.specs.Owed.{Owes, AppendsFront};
 ghost use Rattle.streams.specs.Answers.{text_left, state_left, AnswersBy};
+ghost use Rattle.streams.specs.Stops.{StopsAtSink};
 
 use crate::{Answerer, Stop, write_all};
 use outside::{Memory, Sink};
@@ -50,10 +50,7 @@ impl<A: Answerer + Drop> Session<A> {
         ensures line { OnOk result (self.new.line.items ≡ []) }
         ensures number { OnOk result (self.new.number ≡ self.old.number + 1) }
         ensures front { OnErr result (AppendsFront (K.written out.old) (K.written out.new) (A.text self.old.answerer self.old.number self.old.line.items)) }
-        ensures write { IsErrOf result Stop.Write → Rose (K.faults out.old) (K.faults out.new) }
-        ensures read { IsErrOf result Stop.Read → ⊥ }
-        ensures later { K.faults out.old ≤ K.faults out.new }
-        ensures kept { ¬ IsErrOf result Stop.Write → K.faults out.new ≡ K.faults out.old }
+        ensures stops { StopsAtSink result (K.faults out.old) (K.faults out.new) }
     {
         let Ok(text) = answer(&mut self.answerer, self.number, &self.line) else {
             return Err(Stop::Memory);
@@ -85,10 +82,7 @@ impl<A: Answerer + Drop> Session<A> {
         ensures number { OnOk result (self.new.number ≤ self.old.number + length piece.now) }
         ensures front { (unfinished : Bool) (more : List ℕ) → OnErr result (AppendsFront (K.written out.old) (K.written out.new)
             (text_left A.text A.after self.old.answerer self.old.number unfinished (self.old.line.items ++ (piece.now ++ more)))) }
-        ensures write { IsErrOf result Stop.Write → Rose (K.faults out.old) (K.faults out.new) }
-        ensures read { IsErrOf result Stop.Read → ⊥ }
-        ensures later { K.faults out.old ≤ K.faults out.new }
-        ensures kept { ¬ IsErrOf result Stop.Write → K.faults out.new ≡ K.faults out.old }
+        ensures stops { StopsAtSink result (K.faults out.old) (K.faults out.new) }
     {
         let mut rest = piece;
         while let Some((front, back)) = first_line(rest) {
@@ -116,10 +110,7 @@ impl<A: Answerer + Drop> Session<A> {
         ensures text { OnOk result (Appends (K.written out.old) (K.written out.new) (text_left A.text A.after self.answerer self.number true self.line.items)) }
         ensures state { IfOk result (λ answerer. answerer ≡ state_left A.after self.answerer true self.line.items) }
         ensures front { OnErr result (AppendsFront (K.written out.old) (K.written out.new) (text_left A.text A.after self.answerer self.number true self.line.items)) }
-        ensures write { IsErrOf result Stop.Write → Rose (K.faults out.old) (K.faults out.new) }
-        ensures read { IsErrOf result Stop.Read → ⊥ }
-        ensures later { K.faults out.old ≤ K.faults out.new }
-        ensures kept { ¬ IsErrOf result Stop.Write → K.faults out.new ≡ K.faults out.old }
+        ensures stops { StopsAtSink result (K.faults out.old) (K.faults out.new) }
     {
         if self.line.is_empty() {
             let Session { answerer, .. } = self;

@@ -3,7 +3,7 @@ use Rattle.clap.specs.Words.{App, fault_of, found_of, is_simple, is_simple_and_f
 use Rattle.command_line.specs.Command.{one_command}
 use Rattle.command_line.specs.Items.{texts_of}
 use Rattle.command_line.proofs.OneCommand.{simple, simple_and_free}
-use Rattle.command_line.proofs.OneRun.{found_is, matches_are, unfound}
+use Rattle.command_line.proofs.OneParse.{found_is, matches_are, unfound}
 use Rattle.command_line.proofs.Dashes.{found_plan, unfound_refused}
 use Rattle.command_line.proofs.command.parsed.Goals as goal
 
@@ -11,8 +11,11 @@ pub returns-in-Ok-clause-plan : goal.returns-in-Ok-clause-plan
 returns-in-Ok-clause-plan c =
     let words = texts_of c.args.words.now in
     let is = c.in_ok-command.ensures in
-    let fault : fault_of one_command words ≡ [] = ap (λ (a : App). fault_of a words) (sym is) ∙ c.in-Ok.ensures.kinds (ap is_simple_and_free is ∙ simple_and_free) in
-    let rows : rows_of (found_of c.in-Ok.matches) ≡ matches_of one_command words = (c.in-Ok.ensures.matches (ap is_simple is ∙ simple)).0 ∙ ap (λ (a : App). matches_of a words) is in
+    let fault : fault_of one_command words ≡ [] =
+    ap (λ (a : App). fault_of a words) (sym is)
+    ∙ c.in-Ok.ensures.kinds (ap is_simple_and_free is ∙ simple_and_free) in
+    let rows : rows_of (found_of c.in-Ok.matches) ≡ matches_of one_command words =
+    (c.in-Ok.ensures.matches (ap is_simple is ∙ simple)).0 ∙ ap (λ (a : App). matches_of a words) is in
     found_plan words _ c.requires (matches_are words c.requires (found_is words c.requires fault) ∙ ap Some (sym rows))
 
 pub returns : goal.returns

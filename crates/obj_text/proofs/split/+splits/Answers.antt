@@ -5,7 +5,7 @@ use Rattle.obj_text.specs.Texts.{vertices_of}
 use Rattle.obj_text.specs.Parts.{IsPart}
 use Rattle.obj_text.specs.Sections.{lines_in, IsCounted}
 use Rattle.obj_text.proofs.CurrentName.{last_name}
-use Rattle.obj_text.proofs.AppendedParts.{both_if_there}
+use Rattle.obj_text.proofs.AppendedParts.{part_of_both}
 use Rattle.obj_text.proofs.GroupNames.{name_behind_ahead}
 use Rattle.obj_text.proofs.SectionLists.{vertices_of_halves, lines_of_halves}
 use Rattle.obj_text.proofs.split.+splits.Goals as goal
@@ -78,6 +78,6 @@ returns g t c =
     back.points.items back.faces.items back.runs.items) named
     (subst (λ k. IsPart unit vertices (before + k) c.unwrap_or-current.result.now (lines_in right) back.points.items
     back.faces.items back.runs.items) c.ahead_of_all-ahead.ensures.vertices second) in
-    both_if_there unit vertices before name (lines_in left) (lines_in right) (lines_in c.args.sections.now) front back
-    c.append.result (lines_of_halves _ c.args.sections.now left right c.split_at.ensures.front c.split_at.ensures.back)
-    first behind c.append.ensures.points c.append.ensures.faces c.append.ensures.runs c.append.ensures.few
+    part_of_both unit vertices before name (lines_in left) (lines_in right) (lines_in c.args.sections.now) front back
+    c.in-Ok.part (lines_of_halves _ c.args.sections.now left right c.split_at.ensures.front c.split_at.ensures.back)
+    first behind c.in-Ok.ensures.points c.in-Ok.ensures.faces c.in-Ok.ensures.runs (omega arith)

@@ -13,8 +13,8 @@ ahead_of_all-whole-requires-clause-few g c =
     let text = c.args.bytes.now in
     omega (
       arith,
-      vertices_of_sections c.in_ok-sections.sections.items c.deref.result.now (joined_lines_of text)
-          c.deref.ensures.value c.in_ok-sections.ensures,
+      vertices_of_sections c.in-Some.sections.items c.deref.result.now (joined_lines_of text)
+          c.deref.ensures.value c.in-Some.ensures,
       vertices_few text,
       c.requires.few,
     )
@@ -25,8 +25,8 @@ read_sections-requires-clause-vertices g c κs within =
     omega (
       arith,
       c.ahead_of_all-whole.ensures.vertices,
-      vertices_of_sections c.in_ok-sections.sections.items c.deref.result.now (joined_lines_of text)
-          c.deref.ensures.value c.in_ok-sections.ensures,
+      vertices_of_sections c.in-Some.sections.items c.deref.result.now (joined_lines_of text)
+          c.deref.ensures.value c.in-Some.ensures,
       vertices_few text,
       c.requires.few,
     )
@@ -34,12 +34,12 @@ read_sections-requires-clause-vertices g c κs within =
 pub returns : goal.returns
 returns g c =
     let text = c.args.bytes.now in
-    let sections = c.in_ok-sections.sections.items in
+    let sections = c.in-Some.sections.items in
     let lines = joined_lines_of text in
     let count : c.ahead_of_all-whole.result.vertices ≡ vertices_of lines =
     c.ahead_of_all-whole.ensures.vertices
-    ∙ vertices_of_sections sections c.deref.result.now lines c.deref.ensures.value c.in_ok-sections.ensures in
+    ∙ vertices_of_sections sections c.deref.result.now lines c.deref.ensures.value c.in-Some.ensures in
     let same : map unnumbered (lines_in c.deref-2.result.now) ≡ map unnumbered lines =
-    ap (λ k. map unnumbered (lines_in k)) c.deref-2.ensures.value ∙ c.in_ok-sections.ensures.same in
+    ap (λ k. map unnumbered (lines_in k)) c.deref-2.ensures.value ∙ c.in-Some.ensures.same in
     same_if_there c.args.unit c.ahead_of_all-whole.result.vertices (vertices_of lines) (codes "default")
     (lines_in c.deref-2.result.now) lines c.read_sections.result count same c.read_sections.ensures

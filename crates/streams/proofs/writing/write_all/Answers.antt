@@ -28,6 +28,7 @@ loop-at-preserved g c = record {
   within = grind (arith, common_steps);
   taken =
       rw take-add (Appends-trans _ _ _ _ _ c.loop-at.invariant.taken
-      (subst (λ xs. Appends (g.K.Sink.written c.loop-at.out) (g.K.Sink.written c.write.new.self) (take c.in_ok-at.field-0 xs)) (rest_whole c.loop-at.at c.args.text.now) c.in_ok-at.ensures.bytes));
+      (subst (λ xs. Appends (g.K.Sink.written c.loop-at.out) (g.K.Sink.written c.write.new.self)
+      (take c.in_ok-at.field-0 xs)) (rest_whole c.loop-at.at c.args.text.now) c.in_ok-at.ensures.bytes));
   kept = c.in_ok-at.ensures.cause.kept ∙ c.loop-at.invariant.kept;
 }

@@ -6,10 +6,12 @@ use Rattle.streams.proofs.NextLines.{ended_line, text_next, state_next, same_tex
 use Rattle.streams.proofs.session.Session.feed.Goals as goal
 
 pub returns-in_default-extend_from_slice-clause-front : goal.returns-in_default-extend_from_slice-clause-front
-returns-in_default-extend_from_slice-clause-front g c = λ unfinished more. (_, c.loop-front.invariant.owes unfinished more)
+returns-in_default-extend_from_slice-clause-front g c =
+    λ unfinished more. (_, c.loop-front.invariant.owes unfinished more)
 
 pub returns-in_default-extend_from_slice-2-clause-front : goal.returns-in_default-extend_from_slice-2-clause-front
-returns-in_default-extend_from_slice-2-clause-front g c = λ unfinished more. (_, c.loop-front.invariant.owes unfinished more)
+returns-in_default-extend_from_slice-2-clause-front g c =
+    λ unfinished more. (_, c.loop-front.invariant.owes unfinished more)
 
 pub returns-in_err-answer_line-clause-front : goal.returns-in_err-answer_line-clause-front
 returns-in_err-answer_line-clause-front g c = λ unfinished more.
@@ -19,7 +21,8 @@ returns-in_err-answer_line-clause-front g c = λ unfinished more.
     let ended = c.extend_from_slice.new.self.items in
     let whole = ended_line s.line.items front ended c.in-Ok.ensures.items s.one_line c.in-Some.ensures.0 in
     rw (p.1) (owes_front _ _ _ _ _ _ _ (c.loop-front.invariant.owes unfinished more)
-    (text_next g.A.Answerer.text g.A.Answerer.after s.answerer s.number unfinished s.line.items front c.in-Some.back.now c.loop-front.rest.now more ended
+    (text_next g.A.Answerer.text g.A.Answerer.after s.answerer s.number unfinished s.line.items front c.in-Some.back.now
+    c.loop-front.rest.now more ended
     c.in-Ok.ensures.items c.in-Some.ensures.1 whole) c.in_err-answer_line.ensures.front)
 
 pub loop-front-preserved : goal.loop-front-preserved
@@ -36,13 +39,23 @@ loop-front-preserved g c =
     record {
       one_line = t.one_line;
       owes = λ unfinished more.
-          subst (Owes _ _ _) (same_text text after (after s.answerer ended) t.answerer (s.number + 1) t.number unfinished t.line.items (back ++ more) done.state done.number done.line)
+          subst (Owes _ _ _) (same_text text after (after s.answerer ended) t.answerer (s.number + 1) t.number
+          unfinished t.line.items (back ++ more) done.state done.number done.line)
           (owes_less _ _ _ _ _ _ _ (c.loop-front.invariant.owes unfinished more)
-          (text_next text after s.answerer s.number unfinished s.line.items front back c.loop-front.rest.now more ended c.in-Ok.ensures.items c.in-Some.ensures.1 whole) done.text);
+          (text_next text after s.answerer s.number unfinished s.line.items front back c.loop-front.rest.now more ended
+          c.in-Ok.ensures.items c.in-Some.ensures.1 whole) done.text);
       state = λ unfinished more.
-          same_state after (after s.answerer ended) t.answerer unfinished t.line.items (back ++ more) done.state done.line
-          ∙ sym (state_next after s.answerer unfinished s.line.items front back c.loop-front.rest.now more ended c.in-Ok.ensures.items c.in-Some.ensures.1 whole)
+          same_state after (after s.answerer ended) t.answerer unfinished t.line.items (back ++ more) done.state
+          done.line
+          ∙ sym (state_next after s.answerer unfinished s.line.items front back c.loop-front.rest.now more ended
+          c.in-Ok.ensures.items c.in-Some.ensures.1 whole)
           ∙ c.loop-front.invariant.state unfinished more;
-      number = omega (arith, ap length c.in-Some.ensures.1, length-append front (10 ∷ back), done.number, c.loop-front.invariant.number);
-      kept = done.kept (λ no. absurd (let clash : ⊥ = cc in clash)) ∙ c.loop-front.invariant.kept;
+      number = omega (
+        arith,
+        ap length c.in-Some.ensures.1,
+        length-append front (10 ∷ back),
+        done.number,
+        c.loop-front.invariant.number,
+      );
+      kept = done.stops.kept (λ no. absurd (let clash : ⊥ = cc in clash)) ∙ c.loop-front.invariant.kept;
     }

@@ -10,17 +10,22 @@ pub returns-in_err-answer_line-clause-front : goal.returns-in_err-answer_line-cl
 returns-in_err-answer_line-clause-front g c =
     let p = err_from_is_err_and c.from_residual.result c.from_residual.ensures.1 in
     let s = c.args.self in
-    let some : s.line.items ≡ [] → ⊥ = not_empty _ s.line.items c.is_empty.result c.is_empty.ensures c.if-is_empty.false (omega arith) in
-    rw (p.1) (rw (text_last g.A.Answerer.text g.A.Answerer.after s.answerer s.number s.line.items s.one_line some) c.in_err-answer_line.ensures.front)
+    let some : s.line.items ≡ [] → ⊥ = not_empty _ s.line.items c.is_empty.result c.is_empty.ensures c.if-is_empty.false
+    (omega arith) in
+    rw (p.1) (rw (text_last g.A.Answerer.text g.A.Answerer.after s.answerer s.number s.line.items s.one_line some)
+    c.in_err-answer_line.ensures.front)
 
 pub returns-clause-text : goal.returns-clause-text
 returns-clause-text g c =
     let s = c.args.self in
-    let some : s.line.items ≡ [] → ⊥ = not_empty _ s.line.items c.is_empty.result c.is_empty.ensures c.if-is_empty.false (omega arith) in
-    rw (text_last g.A.Answerer.text g.A.Answerer.after s.answerer s.number s.line.items s.one_line some) c.in_ok-answer_line.ensures.text
+    let some : s.line.items ≡ [] → ⊥ = not_empty _ s.line.items c.is_empty.result c.is_empty.ensures c.if-is_empty.false
+    (omega arith) in
+    rw (text_last g.A.Answerer.text g.A.Answerer.after s.answerer s.number s.line.items s.one_line some)
+    c.in_ok-answer_line.ensures.text
 
 pub returns-clause-state : goal.returns-clause-state
 returns-clause-state g c =
     let s = c.args.self in
-    let some : s.line.items ≡ [] → ⊥ = not_empty _ s.line.items c.is_empty.result c.is_empty.ensures c.if-is_empty.false (omega arith) in
+    let some : s.line.items ≡ [] → ⊥ = not_empty _ s.line.items c.is_empty.result c.is_empty.ensures c.if-is_empty.false
+    (omega arith) in
     c.in_ok-answer_line.ensures.state ∙ sym (state_last g.A.Answerer.after s.answerer s.line.items s.one_line some)
