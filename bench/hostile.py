@@ -234,6 +234,12 @@ def opens_and_seeks(tries):
     refused(tries, "seek", (READ_FAULT,))
 
 
+def cut_off(script):
+    """A script whose reading fails behind these bytes."""
+    yield script
+    raise oracle.ReadFailed
+
+
 def reads(tries):
     """Each read refused in turn, the whole script at once and byte by byte.
 
@@ -251,7 +257,7 @@ def reads(tries):
             taken = number - len(mesh) - 2
             lines = script[:max(taken, 0)].count(b"\n")
             if taken >= 0 and lines not in ended:
-                ended[lines] = oracle.answered(parsed, script[:taken], unit, failed=True)
+                ended[lines] = oracle.answered(parsed, cut_off(script[:taken]), unit)
             tries.same(f"{name}, read {number}", tries.run(words, script, refuse=f"read {number}", short=True),
                        ended[lines] if taken >= 0 else (b"", READ_FAULT))
 

@@ -4,10 +4,10 @@
     python3 bench/oracle.py MESH [--unit U] [--workers W] [--build karras|apetrei] < SCRIPT
     python3 bench/oracle.py --grid N [--workers W] [--build karras|apetrei]
 
-It takes the words that `world` takes, writes what `world` is to write, and ends with the same status. Nothing of the
-Rattle code is used or imitated: number words become exact fractions, the tree is the recursion from the top, a box query
-tests the box of every triangle, and a segment query solves a linear equation, in fractions, with every triangle. It
-stands on Python's standard library alone. Meshes of some thousand triangles are its measure.
+It takes the words that `world` takes, writes what `world` is to write, each reply before it reads on, and ends with the
+same status. Nothing of the Rattle code is used or imitated: number words become exact fractions, the tree is the recursion
+from the top, a box query tests the box of every triangle, and a segment query solves a linear equation, in fractions, with
+every triangle. It stands on Python's standard library alone. Meshes of some thousand triangles are its measure.
 
 `docs/GUIDE.md` says which words are accepted, `docs/OBJ.md` how a mesh is read, `docs/WORDS.md` what a script line asks
 and how it is answered. `bench/against_oracle.py` compares the program with it.
@@ -407,31 +407,61 @@ def opened(mesh_text, unit):
     return mesh, b"mesh line %d: %b\n" % (fault[0], fault[1].encode()) if fault else None
 
 
-def answered(mesh, script, unit, words=WORDS, failed=False):
-    """The replies to a script over a mesh, and the status. `words` are the script words that are known. Where the reading
-    of the script failed behind these bytes, the lines that ended in them are answered."""
-    world, output, status = World(mesh), [], READ_FAULT if failed else DONE
-    too_long = len(script) > SCRIPT_MOST
-    if too_long or failed:
-        script = script[:SCRIPT_MOST]
-        script = script[:script.rfind(b"\n") + 1]
-    for number, line in enumerate(lines_of(script), 1):
+class Session:
+    """A script over a mesh, a line at a time: its world, how many lines came, and the status. `words` are the script words
+    that are known."""
+
+    def __init__(self, mesh, unit, words=WORDS):
+        self.world, self.unit, self.words, self.lines, self.status = World(mesh), unit, words, 0, DONE
+
+    def reply(self, line):
+        """What is written for the next line."""
+        self.lines += 1
         try:
-            reply = answer(world, line, unit, words)
+            reply = answer(self.world, line, self.unit, self.words)
         except Refused as reason:
-            reply, status = f"line {number}: {reason}", status or LINES_REFUSED
-        if reply is not None:
-            output.append((reply if isinstance(reply, bytes) else reply.encode()) + b"\n")
-    if too_long:
-        output.append(b"script too long\n")
-        status = LINES_REFUSED
-    return b"".join(output), status
+            reply, self.status = f"line {self.lines}: {reason}", LINES_REFUSED
+        if reply is None:
+            return b""
+        return (reply if isinstance(reply, bytes) else reply.encode()) + b"\n"
+
+    def replies(self, pieces):
+        """What is written for a script, a line at a time: the lines that end in a piece before the next one is taken."""
+        taken, rest = 0, b""
+        for piece in pieces:
+            lines = (rest + piece[:SCRIPT_MOST - taken]).split(b"\n")
+            taken, rest = taken + len(piece), lines.pop()
+            yield from map(self.reply, lines)
+            if taken > SCRIPT_MOST:
+                self.status = LINES_REFUSED
+                yield b"script too long\n"
+                return
+        if rest:
+            yield self.reply(rest)
+
+
+class ReadFailed(Exception):
+    """A file cannot be read further."""
+
+
+def answered(mesh, pieces, unit, words=WORDS):
+    """The replies to a script that comes in pieces, and the status. Where the pieces end with `ReadFailed`, the lines that
+    ended in them are answered."""
+    session, output = Session(mesh, unit, words), []
+    try:
+        for reply in session.replies(pieces):
+            output.append(reply)
+    except ReadFailed:
+        return b"".join(output), READ_FAULT
+    return b"".join(output), session.status
 
 
 def run(mesh_text, script, unit=UNIT, words=WORDS):
     """What the program writes over a mesh text and a script, and its status."""
     mesh, refusal = opened(mesh_text, unit)
-    return (refusal, MESH_REFUSED) if refusal else answered(mesh, script, unit, words)
+    if refusal:
+        return refusal, MESH_REFUSED
+    return answered(mesh, [script], unit, words)
 
 
 # ------------------------------------------------------------------------------------------------ the large workload
@@ -516,38 +546,56 @@ def plan_of(words):
     return plan
 
 
-def bytes_of(file, most):
-    """The bytes of a file up to one more than so many, and whether its reading failed behind them."""
+def pieces_of(file):
+    """The bytes of a file in pieces, each as soon as it is there."""
+    try:
+        while piece := os.read(file, 1 << 20):
+            yield piece
+    except OSError:
+        raise ReadFailed from None
+
+
+def mesh_text_of(name):
+    """The bytes of a mesh file, up to one more than a mesh may have or a little further."""
+    try:
+        file = os.open(name, os.O_RDONLY)
+    except (OSError, ValueError):       # a name with a zero byte, which no command line has
+        raise ReadFailed from None
     text = b""
     try:
-        while len(text) <= most and (piece := os.read(file, min(most + 1 - len(text), 1 << 20))):
+        for piece in pieces_of(file):
             text += piece
-    except OSError:
-        return text, True
-    return text, False
+            if len(text) > MESH_MOST:
+                break
+    finally:
+        os.close(file)
+    return text
+
+
+def write(text):
+    """Writes all of it to standard output."""
+    while text:
+        text = text[os.write(1, text):]
 
 
 def answer_words(words):
-    """What the program writes and its status, by the words of its command line, the mesh file and standard input."""
+    """Does what the words ask for, and answers the status."""
     plan = plan_of(words)
     if plan is None:
-        return b"bad command line\n", USAGE
+        write(b"bad command line\n")
+        return USAGE
     if "grid" in plan:
-        return grid_report(plan["grid"]), DONE
-    try:
-        file = os.open(plan["mesh"], os.O_RDONLY)
-    except (OSError, ValueError):       # a name with a zero byte, which no command line has
-        return b"", READ_FAULT
-    mesh_text, failed = bytes_of(file, MESH_MOST)
-    os.close(file)
-    if failed:
-        return b"", READ_FAULT
+        write(grid_report(plan["grid"]))
+        return DONE
     unit = plan.get("unit", UNIT)
-    mesh, refusal = opened(mesh_text, unit)
+    mesh, refusal = opened(mesh_text_of(plan["mesh"]), unit)
     if refusal:
-        return refusal, MESH_REFUSED    # and the script is not touched
-    script, failed = bytes_of(0, SCRIPT_MOST)
-    return answered(mesh, script, unit, failed=failed)
+        write(refusal)                  # and the script is not touched
+        return MESH_REFUSED
+    session = Session(mesh, unit)
+    for reply in session.replies(pieces_of(0)):
+        write(reply)
+    return session.status
 
 
 def main():
@@ -559,15 +607,13 @@ def main():
             words = [""]                # words that are not all UTF-8 are not accepted
             break
     try:
-        output, status = answer_words(words)
+        sys.exit(answer_words(words))
     except MemoryError:
-        output, status = b"", MEMORY
-    try:
-        while output:
-            output = output[os.write(1, output):]
+        sys.exit(MEMORY)
+    except ReadFailed:
+        sys.exit(READ_FAULT)
     except OSError:
-        status = WRITE_FAULT
-    sys.exit(status)
+        sys.exit(WRITE_FAULT)
 
 
 if __name__ == "__main__":

@@ -8,3 +8,4 @@ pub mod Parts
 pub mod Ahead
 pub mod Sections
 pub mod HeightFields
+pub mod Arrays

@@ -4,6 +4,8 @@
 #![tactic(auto)]
 
 mod ahead;
+mod array_fault;
+mod arrays;
 mod coordinates;
 mod face;
 mod fault;
@@ -23,6 +25,8 @@ mod sections;
 mod split;
 mod vertex_count;
 
+pub use array_fault::ArrayFault;
+pub use arrays::one_group;
 pub use decimals::{GREATEST, MOST_DIGITS, NumberFault, grid, whole};
 pub use face::Face;
 pub use fault::{MeshFault, Why};

@@ -2,6 +2,8 @@
 
 use super::*;
 use fixed_box::{Point, UNIT_MAX};
+use indexmap::IndexSet;
+use outside::{Memory, Name};
 use std::alloc::{AllocError, Global};
 use std::process::Abort;
 use std::test::Fail;
@@ -380,6 +382,153 @@ fn a_mesh_is_taken_apart(rt: HostRuntime) -> Result<(), Fail> {
     assert_eq!(rt; group_of.as_slice(), [0].as_slice());
     let name = groups.get_index(0).ok_or("one group")?;
     assert_eq!(rt; name.bytes(), b"a".as_slice());
+    Ok(())
+}
+
+/// What arrays give, as text: their mesh, or its first fault. A group has one byte for its name.
+fn arrays_shown(
+    rt: &impl Abort,
+    alloc: Global,
+    points: &[Point],
+    faces: &[Face],
+    group_of: &[u32],
+    names: &[u8],
+) -> Result<String, AllocError> {
+    let mut groups = IndexSet::new(alloc);
+    for name in names {
+        let name = Name::new(Vec::from_slice(alloc, &[*name])?);
+        if groups.insert_full(name).is_err() {
+            return Err(AllocError);
+        }
+    }
+    let points = points.to_vec(alloc)?;
+    let faces = faces.to_vec(alloc)?;
+    let group_of = group_of.to_vec(alloc)?;
+    match Mesh::of(points, faces, group_of, groups) {
+        Ok(mesh) => mesh_shown(rt, alloc, &mesh),
+        Err(fault) => format!(in alloc; "{fault}"),
+    }
+}
+
+/// A face of these three corners.
+fn over(a: u32, b: u32, c: u32) -> Face {
+    Face { a, b, c }
+}
+
+/// A point of these coordinates.
+fn at(x: i32, y: i32, z: i32) -> Point {
+    Point { x, y, z }
+}
+
+#[test]
+fn arrays_are_a_mesh_or_their_first_fault_is_named(rt: HostRuntime) -> Result<(), Fail> {
+    let low = at(-131072, -131072, -131072);
+    let high = at(131071, 131071, 131071);
+    let past = at(0, 131072, 0);
+    let under = at(0, 0, -131073);
+    let face = over(0, 1, 0);
+    let cases: [(&[Point], &[Face], &[u32], &[u8], &str); 13] = [
+        (&[], &[], &[], b"", ""),
+        (&[], &[], &[], b"a", ""),
+        (
+            &[low, high],
+            &[face, over(1, 1, 1)],
+            &[1, 0],
+            b"ab",
+            "(-131072 -131072 -131072)(131071 131071 131071) b[0 1 0] a[1 1 1]",
+        ),
+        (
+            &[low, past, under],
+            &[],
+            &[],
+            b"",
+            "point 1 is outside the world",
+        ),
+        (
+            &[under, low, past],
+            &[],
+            &[],
+            b"",
+            "point 0 is outside the world",
+        ),
+        (
+            &[low, high],
+            &[face],
+            &[],
+            b"a",
+            "not one group for each face",
+        ),
+        (&[past], &[], &[0], b"a", "not one group for each face"),
+        (
+            &[low, high],
+            &[face, over(0, 2, 1)],
+            &[0, 0],
+            b"a",
+            "face 1 names no such point",
+        ),
+        (
+            &[low],
+            &[face, over(0, 0, 1)],
+            &[0, 0],
+            b"a",
+            "face 0 names no such point",
+        ),
+        (
+            &[low, past],
+            &[over(2, 0, 0)],
+            &[0],
+            b"a",
+            "point 1 is outside the world",
+        ),
+        (
+            &[low, high],
+            &[over(0, 0, 4294967295)],
+            &[1],
+            b"a",
+            "face 0 names no such point",
+        ),
+        (
+            &[low, high],
+            &[face, face, face],
+            &[0, 1, 2],
+            b"a",
+            "face 1 is in no such group",
+        ),
+        (
+            &[low, high],
+            &[face],
+            &[0],
+            b"",
+            "face 0 is in no such group",
+        ),
+    ];
+    for (case, (points, faces, group_of, names, want)) in cases.iter().enumerate() {
+        let shown = arrays_shown(&rt, rt.alloc(), points, faces, group_of, names)?;
+        assert_eq!(rt; shown.as_str(), *want, "case {case}");
+    }
+    Ok(())
+}
+
+/// What so many points and faces give, all faces in one group.
+fn sized(alloc: Global, points: usize, faces: usize) -> Result<Result<Mesh, ArrayFault>, Memory> {
+    let name = Name::new(b"all".to_vec(alloc).map_err(|_| Memory)?);
+    let (group_of, groups) = one_group(alloc, faces, name)?;
+    let points = vec![in alloc; at(0, 0, 0); points].map_err(|_| Memory)?;
+    let faces = vec![in alloc; over(0, 0, 0); faces].map_err(|_| Memory)?;
+    Ok(Mesh::of(points, faces, group_of, groups))
+}
+
+#[test]
+fn arrays_past_a_limit_are_refused(rt: HostRuntime) -> Result<(), Fail> {
+    let mesh = sized(rt.alloc(), MOST_POINTS, MOST_FACES)?.ok();
+    let mesh = mesh.expect(&rt, "a mesh at both limits");
+    assert_eq!(rt; mesh.points().len(), 1_048_576);
+    assert_eq!(rt; mesh.faces().len(), 1_048_576);
+    expect_face(&rt, &mesh, 1_048_575, 0, 0, 0, 0);
+    let fault = sized(rt.alloc(), 1_048_577, 1_048_577)?.err();
+    assert_eq!(rt; fault, Some(ArrayFault::TooManyPoints));
+    let fault = sized(rt.alloc(), 0, 1_048_577)?.err();
+    assert_eq!(rt; fault, Some(ArrayFault::TooManyFaces));
     Ok(())
 }
 
