@@ -1,6 +1,8 @@
-//! Schedules worked by hand, and two thousand random ones beside the plain build, with each state counted over.
+//! Schedules worked by hand, and two thousand random ones beside the plain build, with each state counted over. Workers
+//! that stop at random stand in `stopping`.
 
 mod counting;
+mod stopping;
 
 ghost use Rattle.std.specs.Prelude.{◌≡◌, ◌+◌, ◌^◌, ◌<◌, ◌≤◌, All, AllPairs, IfOk, length};
 ghost use Rattle.fixed_box.specs.World.{BoxInWorld};

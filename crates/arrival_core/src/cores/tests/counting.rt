@@ -22,6 +22,25 @@ pub(super) struct Table {
     pub(super) children: Vec<Expected>,
     /// The side above each position.
     above: Vec<usize>,
+    /// The side above each inner node, by its split; none above the root.
+    above_inner: Vec<Option<usize>>,
+}
+
+impl Table {
+    /// Whether a live position lies below a side.
+    pub(super) fn is_live(&self, side: usize) -> bool {
+        self.children.get(side).is_some_and(|child| child.live)
+    }
+
+    /// The side above the leaf at a position.
+    pub(super) fn above_leaf(&self, position: u32) -> Option<usize> {
+        self.above.get(position as usize).copied()
+    }
+
+    /// The side above an inner node, or none above the root.
+    pub(super) fn above_node(&self, split: usize) -> Option<usize> {
+        *self.above_inner.get(split)?
+    }
 }
 
 pub(super) fn side_index(split: u32, side: Side) -> usize {
@@ -88,6 +107,7 @@ pub(super) fn table_of(
     let count = tree.nodes().len();
     let mut children = vec![in alloc; none; 2 * count]?;
     let mut above = vec![in alloc; 0; count + 1]?;
+    let mut above_inner = vec![in alloc; None; count]?;
     for number in 0..count {
         let split = tree.nodes()[number].split;
         for (side, child) in [
@@ -100,16 +120,22 @@ pub(super) fn table_of(
                 child_at(tree, boxes, live, child),
             ) {
                 *slot = found;
-                if let (false, Some(up)) = (
-                    found.inner,
-                    above.get_mut(found.packet.first as usize),
-                ) {
+                let at = found.packet.split as usize;
+                if found.inner {
+                    if let Some(up) = above_inner.get_mut(at) {
+                        *up = Some(index);
+                    }
+                } else if let Some(up) = above.get_mut(at) {
                     *up = index;
                 }
             }
         }
     }
-    Ok(Table { children, above })
+    Ok(Table {
+        children,
+        above,
+        above_inner,
+    })
 }
 
 /// How often the child of each side is anywhere, and how many workers are behind an opening or a second arrival.
