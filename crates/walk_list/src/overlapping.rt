@@ -15,8 +15,8 @@ use traversal::Numbers;
 
 /// The triangles whose boxes meet the box, rising. Boxes are closed: one that only touches the queried box meets it.
 ///
-/// The walk takes no memory but for the answer's list; many numbers take marks, a bit for each triangle, and a second
-/// list, to be put in order.
+/// The walk takes no memory but for the answer's list; many numbers take a bit for each from the least to the greatest,
+/// and a second list, to be put in order.
 pub fn overlaps(alloc: Global, f: &WalkList, q: &Box3) -> Result<Numbers, Memory>
     ensures { (boxes : List Box3) → IsOver f.now boxes →
         IfOk result (λ numbers. numbers ≡ overlaps_of boxes q.now) }
@@ -25,6 +25,6 @@ pub fn overlaps(alloc: Global, f: &WalkList, q: &Box3) -> Result<Numbers, Memory
     let Ok(_) = collect(f.records(), f.leaves(), q, &mut numbers) else {
         return Err(Memory);
     };
-    let numbers = sorted(alloc, numbers, f.leaves().len());
+    let numbers = sorted(alloc, numbers);
     Ok(Numbers::new(numbers))
 }
