@@ -7,15 +7,13 @@ ghost use Rattle.world_engine.specs.Worlds.{tri_of, tris_at, boxes_at};
 ghost use Rattle.world_engine.specs.Kept.{box_at};
 
 use fixed_box::{Box3, Point, Tri, box_of};
+use karras_build::LEAST_LIST;
 use obj_text::Face;
 use outside::Memory;
 use rayon::prelude::*;
 use std::alloc::{AllocError, Global};
 use std::thread::Threads;
 use traversal::Triangles;
-
-/// How few boxes are made on the calling thread: fewer are not worth others.
-const LEAST_LIST: usize = 8192;
 
 /// Faces over points, as triangles by their numbers.
 #[derive(Clone, Copy)]
