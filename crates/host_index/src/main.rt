@@ -4,13 +4,13 @@
 //! `Indexed` keeps, so each query is asked with nothing more to show.
 #![tactic(auto)]
 
-ghost use Rattle.std.specs.Prelude.{◌≡◌, map, All, IfOk, IsTrue};
+ghost use Rattle.std.specs.Prelude.{map, All, IsTrue};
 ghost use Rattle.fixed_box.specs.Extent.{tri_box};
-ghost use Rattle.fixed_box.specs.World.{BoxInWorld, InWorld, TriInWorld};
+ghost use Rattle.fixed_box.specs.World.{TriInWorld};
 ghost use Rattle.radix_tree.specs.Fit.{IsFitted};
 
-use fixed_box::{Box3, Point, Tri, box_of, in_world};
-use karras_build::{order_by_threads, tree_by_threads};
+use fixed_box::{Box3, Point, Tri, in_world};
+use karras_build::{boxes_of, order_by_threads, tree_by_threads};
 use morton_key::POSITION_WIDTH;
 use outside::Memory;
 use radix_tree::Tree;
@@ -30,13 +30,6 @@ struct Indexed {
     ghost over_tris: { IsFitted tree (map tri_box tris.items) },
 }
 
-/// The box of each triangle.
-fn boxes_of(alloc: Global, tris: &[Tri]) -> Result<Vec<Box3>, AllocError>
-    ensures { IfOk result (λ boxes. boxes.items ≡ map tri_box tris.now) }
-{
-    tris.iter().map(|t| box_of(t)).collect(alloc)
-}
-
 /// Whether all triangles lie in the world.
 fn are_in_world(tris: &[Tri]) -> bool
     ensures { IsTrue result → All TriInWorld tris.now }
@@ -45,25 +38,16 @@ fn are_in_world(tris: &[Tri]) -> bool
         .all(|t| in_world(&t.a) && in_world(&t.b) && in_world(&t.c))
 }
 
-/// Whether all boxes lie in the world.
-fn boxes_in_world(boxes: &[Box3]) -> bool
-    ensures { IsTrue result → All BoxInWorld boxes.now }
-{
-    boxes.iter().all(|b| in_world(&b.lo) && in_world(&b.hi))
-}
-
 /// The triangles with their tree; `None` where one is outside the world, or there are more than 1,048,576.
 fn index<R: Threads + Sync>(
     rt: &R,
     alloc: Global,
     tris: Vec<Tri>,
 ) -> Result<Option<Indexed>, Memory> {
-    let Ok(boxes) = boxes_of(alloc, &tris) else {
-        return Err(Memory);
-    };
-    if (1 << POSITION_WIDTH) < boxes.len() || !are_in_world(&tris) || !boxes_in_world(&boxes) {
+    if (1 << POSITION_WIDTH) < tris.len() || !are_in_world(&tris) {
         return Ok(None);
     }
+    let boxes = boxes_of(alloc, &tris)?;
     let keys = order_by_threads(rt, alloc, &boxes)?;
     let tree = tree_by_threads(rt, alloc, keys, &boxes)?;
     Ok(Some(Indexed { tris, boxes, tree }))

@@ -4,3 +4,4 @@ pub mod PartLaws
 pub mod KeyLists
 pub mod LinkLaws
 pub mod FewKeys
+pub mod TriangleBoxes

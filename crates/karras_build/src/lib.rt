@@ -13,6 +13,7 @@ mod links;
 mod ordering;
 mod ranges;
 mod searching;
+mod tri_boxes;
 mod ways;
 
 pub use building::tree_by_threads;
@@ -22,6 +23,7 @@ pub use handing_up::build;
 pub use links::{Links, links_of};
 pub use ordering::order_by_threads;
 pub use ranges::Span;
+pub use tri_boxes::boxes_of;
 
 #[cfg(test)]
 mod tests;

@@ -6,11 +6,11 @@ ghost use Rattle.box_handoff.specs.Ends.{AreEnds};
 ghost use Rattle.karras_build.specs.Spans.{AreSpans};
 
 use crate::{
-    Links, Span, build, find, fit_joined, links_of, order_by_threads, spans, tree_by_threads,
+    Links, Span, boxes_of, build, find, fit_joined, links_of, order_by_threads, spans, tree_by_threads,
 };
 use arrival_core::{Side, Up};
 use box_handoff::Ways;
-use fixed_box::{Box3, Point, Tri, box_of, in_world};
+use fixed_box::{Box3, Point, Tri, in_world};
 use morton_key::{Key, order};
 use outside::{Memory, OpenGate};
 use radix_tree::{Node, Tree, plain};
@@ -163,12 +163,14 @@ fn node(first: u32, last: u32, split: u32, lo: Point, hi: Point) -> Node {
 fn a_floor_and_a_ramp_have_the_tree_of_the_plain_build(rt: HostRuntime) -> Result<(), Fail> {
     let (a, b, c, d) = (at(0, 0, 0), at(256, 0, 0), at(256, 256, 0), at(0, 256, 0));
     let (e, f) = (at(416, 0, 80), at(416, 256, 80));
-    let boxes = [
-        box_of(&Tri { a, b, c }),
-        box_of(&Tri { a, b: c, c: d }),
-        box_of(&Tri { a: b, b: e, c: f }),
-        box_of(&Tri { a: b, b: f, c }),
+    let tris = [
+        Tri { a, b, c },
+        Tri { a, b: c, c: d },
+        Tri { a: b, b: e, c: f },
+        Tri { a: b, b: f, c },
     ];
+    let boxes = boxes_of(rt.alloc(), &tris)?;
+    assert_eq!(rt; boxes.get(2), Some(&Box3::of_corners(b, f)));
     let (fast, slow) = all_trees(&rt, rt.alloc(), &boxes)?;
     let expected = [
         node(0, 3, 1, a, f),
