@@ -1,79 +1,85 @@
-//! Whole runs of the large workload at a gate that counts passes, and at which two workers look out for each other.
+//! Whole runs of the large workload at a gate that counts passes, and at which workers look out for each other.
 
-ghost use Rattle.std.specs.Prelude.{◌<◌};
-
+use crate::words::words_of;
 use outside::{Gate, MemShelf, MemSink, MemSource, Name};
 use std::alloc::{AllocError, Global};
 use std::process::Abort;
 use std::rt::HostRuntime;
 use std::sync::atomic::{AtomicU64, Ordering};
 use std::test::Fail;
-use std::thread::Threads;
+use std::thread::{self, Threads};
 use world_engine::{Status, run};
 
-/// How often a worker looks out for the other before it goes on alone.
+/// How often a worker looks out for another before it goes on alone.
 const MOST_LOOKS: u32 = 500_000_000;
 
-/// A gate for two workers. Before its first batch of each fitting a worker says that it begins, and looks for a while
-/// whether the other has begun that one too. It waits for nobody: who looks in vain says so and goes on.
+/// After how many looks it leaves the processor to others.
+const LOOKS_AT_A_TIME: u32 = 4_096;
+
+/// A gate for some workers. Before its first batch of each fitting a worker says that it begins, and looks for a while
+/// whether each other one has begun that fitting too. It waits for nobody: who looks in vain says so and goes on.
 #[derive(Drop)]
 struct MeetingGate {
     /// How many fittings each worker began.
-    began: [AtomicU64; 2],
+    began: Vec<AtomicU64>,
     /// How many batches each worker went for.
-    passes: [AtomicU64; 2],
-    /// How often a worker looked in vain, or was none of the two.
+    passes: Vec<AtomicU64>,
+    /// How often a worker looked in vain, or was none of these.
     alone: AtomicU64,
 }
 
-impl MeetingGate {
-    fn new() -> MeetingGate {
-        MeetingGate {
-            began: [AtomicU64::new(0), AtomicU64::new(0)],
-            passes: [AtomicU64::new(0), AtomicU64::new(0)],
-            alone: AtomicU64::new(0),
+/// So many counts, each zero.
+fn zeros(alloc: Global, count: u32) -> Result<Vec<AtomicU64>, AllocError> {
+    let mut all = Vec::new(alloc);
+    for _ in 0..count {
+        all.push(AtomicU64::new(0))?;
+    }
+    Ok(all)
+}
+
+/// Whether a count is so great, or becomes so while one looks.
+fn reaches(count: &AtomicU64, least: u64) -> bool {
+    for look in 0..MOST_LOOKS {
+        if least <= count.load(Ordering::SeqCst) {
+            return true;
+        }
+        if look % LOOKS_AT_A_TIME == 0 {
+            thread::yield_now();
         }
     }
+    false
+}
 
-    /// Whether the other worker has begun so many fittings, or begins them while this one looks.
-    fn meets(&self, other: usize, fittings: u64) -> bool
-        requires { other < 2 }
-    {
-        for _ in 0..MOST_LOOKS {
-            if fittings <= self.began[other].load(Ordering::SeqCst) {
-                return true;
-            }
-        }
-        false
+impl MeetingGate {
+    fn new(alloc: Global, workers: u32) -> Result<MeetingGate, AllocError> {
+        Ok(MeetingGate {
+            began: zeros(alloc, workers)?,
+            passes: zeros(alloc, workers)?,
+            alone: AtomicU64::new(0),
+        })
+    }
+
+    /// Whether each worker has begun so many fittings, or begins them while this one looks.
+    fn meets(&self, fittings: u64) -> bool {
+        self.began.iter().all(|began| reaches(began, fittings))
     }
 }
 
 impl Gate for MeetingGate {
     fn pass(&self, worker: u32, turn: u64) {
-        if worker > 1 {
+        let own = worker as usize;
+        let (Some(began), Some(passes)) = (self.began.get(own), self.passes.get(own)) else {
             self.alone.fetch_add(1, Ordering::SeqCst);
             return;
-        }
-        let own = worker as usize;
-        self.passes[own].fetch_add(1, Ordering::SeqCst);
+        };
+        passes.fetch_add(1, Ordering::SeqCst);
         if turn == 0 {
-            let fittings = self.began[own]
-                .fetch_add(1, Ordering::SeqCst)
-                .wrapping_add(1);
-            if !self.meets(1 - own, fittings) {
+            let fittings = began.fetch_add(1, Ordering::SeqCst).wrapping_add(1);
+            if !self.meets(fittings) {
                 self.alone.fetch_add(1, Ordering::SeqCst);
             }
         }
     }
-}
-
-/// The words that a line has.
-fn words_of(alloc: Global, line: &str) -> Result<Vec<String>, AllocError> {
-    let mut words = Vec::new(alloc);
-    for word in line.split(' ') {
-        words.push(String::from_str(alloc, word)?)?;
-    }
-    Ok(words)
 }
 
 /// What a run of these words writes, over an empty mesh and an empty script.
@@ -95,35 +101,38 @@ fn written<R: Threads + Sync + Abort + AllocGlobal, G: Gate>(
     Ok(out.bytes().to_vec(alloc)?)
 }
 
-/// Two workers at the meeting gate, over 131,072 triangles: 2,048 batches at the opening and at the rebuild, and one
+/// Some workers at the meeting gate, over 131,072 triangles: 2,048 batches at the opening and at the rebuild, and one
 /// between them, when the 23 triangles that eight moves touch are fitted.
-fn two_meet<R: Threads + Sync + Abort + AllocGlobal>(rt: &R, line: &str) -> Result<Vec<u8>, Fail> {
-    let gate = MeetingGate::new();
-    let text = written(rt, line, &gate)?;
+fn all_meet<R: Threads + Sync + Abort + AllocGlobal>(
+    rt: &R,
+    workers: u32,
+    build: &str,
+) -> Result<Vec<u8>, Fail> {
+    let alloc = rt.alloc();
+    let line = format!(in alloc; "--grid 256 --workers {workers} --build {build}")?;
+    let gate = MeetingGate::new(alloc, workers)?;
+    let text = written(rt, &line, &gate)?;
     assert_eq!(rt;
         gate.alone.load(Ordering::SeqCst),
         0,
         "a worker went on alone: {line}"
     );
-    for worker in 0..2 {
-        assert_eq!(rt;
-            gate.began[worker].load(Ordering::SeqCst),
-            3,
-            "fittings of {line}"
-        );
-        assert_eq!(rt;
-            gate.passes[worker].load(Ordering::SeqCst),
-            4097,
-            "passes of {line}"
-        );
+    for began in &gate.began {
+        assert_eq!(rt; began.load(Ordering::SeqCst), 3, "fittings of {line}");
+    }
+    for passes in &gate.passes {
+        assert_eq!(rt; passes.load(Ordering::SeqCst), 4097, "passes of {line}");
     }
     Ok(text)
 }
 
-#[test]
-fn two_workers_work_at_the_same_time_in_each_fitting_of_a_run(rt: HostRuntime) -> Result<(), Fail> {
-    let alone = two_meet(&rt, "--grid 256 --workers 2 --build karras")?;
-    let upward = two_meet(&rt, "--grid 256 --workers 2 --build apetrei")?;
+/// The same by both builds, which write the same.
+fn all_meet_by_both<R: Threads + Sync + Abort + AllocGlobal>(
+    rt: &R,
+    workers: u32,
+) -> Result<(), Fail> {
+    let alone = all_meet(rt, workers, "karras")?;
+    let upward = all_meet(rt, workers, "apetrei")?;
     assert!(rt; alone == upward);
     let starts: [&[u8]; 5] = [
         b"triangles 131072 nodes 131071 height ",
@@ -138,4 +147,23 @@ fn two_workers_work_at_the_same_time_in_each_fitting_of_a_run(rt: HostRuntime) -
         assert!(rt; line.starts_with(start));
     }
     Ok(())
+}
+
+#[test]
+fn two_workers_work_at_the_same_time_in_each_fitting_of_a_run(rt: HostRuntime) -> Result<(), Fail> {
+    all_meet_by_both(&rt, 2)
+}
+
+#[test]
+fn four_workers_work_at_the_same_time_in_each_fitting_of_a_run(
+    rt: HostRuntime,
+) -> Result<(), Fail> {
+    all_meet_by_both(&rt, 4)
+}
+
+#[test]
+fn sixty_four_workers_work_at_the_same_time_in_each_fitting_of_a_run(
+    rt: HostRuntime,
+) -> Result<(), Fail> {
+    all_meet_by_both(&rt, 64)
 }

@@ -4,6 +4,7 @@ use box_handoff::Built;
 use fixed_box::{Box3, Point, in_world};
 use morton_key::order;
 use outside::{Memory, OpenGate};
+use radix_tree::Node;
 use std::alloc::{AllocError, Global};
 use std::process::Abort;
 use std::rt::HostRuntime;
@@ -72,6 +73,30 @@ fn both_builds_make_one_tree_of_each_of_a_hundred_meshes(rt: HostRuntime) -> Res
             );
             assert_eq!(rt; alone.tally.fits, upward.tally.fits);
             assert_eq!(rt; alone.tally.steps, upward.tally.steps);
+        }
+    }
+    Ok(())
+}
+
+// The event of each worker that looks for the one batch; two leaves that are opened and arrive; a node that is collected
+// and left.
+#[test]
+fn two_equal_triangles_are_fitted_once_by_any_number_of_workers(
+    rt: HostRuntime,
+) -> Result<(), Fail> {
+    let one = Box3::of_corners(Point { x: 0, y: 0, z: 0 }, Point { x: 4, y: 4, z: 0 });
+    let node = Node {
+        first: 0,
+        last: 1,
+        split: 0,
+        fit: one,
+    };
+    for workers in [2, 4, 64] {
+        let (alone, upward) = by_both(&rt, rt.alloc(), &[one, one], workers)?;
+        for built in [&alone, &upward] {
+            assert_eq!(rt; built.tree.nodes(), [node].as_slice());
+            assert_eq!(rt; built.tally.fits, 1);
+            assert_eq!(rt; built.tally.steps, u64::from(workers) + 6);
         }
     }
     Ok(())
