@@ -1,5 +1,5 @@
 -- The positions of the triangles that use moved vertices, while they are gathered, and when they are sorted.
-use Rattle.std.proofs.Common.{◌≡◌, ℕ, ◌+◌, ◌-◌, ◌<◌, ◌≤◌, ◌⊎◌, inl, inr, refl, sym, ap, ◌∙◌, arith, subst, List, [], ◌∷◌, ◌++◌, length, get_or, suc, zero, set, eqb}
+use Rattle.std.proofs.Common.{◌≡◌, ℕ, ◌+◌, ◌-◌, ◌<◌, ◌≤◌, ◌⊎◌, inl, inr, sym, ap, ◌∙◌, arith, subst, List, [], ◌∷◌, ◌++◌, length, get_or, suc, zero, set, eqb}
 use Rattle.std.specs.List.{Contains, AllPairs, dedup, All}
 use Rattle.std.specs.List.Sorted.{IsSorted, IsPermutation}
 use Rattle.std.specs.Ordering.{nat_cmp}
@@ -15,7 +15,7 @@ use Rattle.morton_key.specs.Keys.{tri_at, IsLawful}
 use Rattle.morton_key.proofs.Numbers.{tri_found, tri_apart}
 use Rattle.obj_text.specs.declared.face.Face.{Face}
 use Rattle.world_engine.specs.Fans.{HasVertex, face_at, IsLatest}
-use Rattle.world_engine.specs.Live.{IsStill, StandsStill, AreLive, position_at, ArePositionsTo, ArePositions, IsOfFan, AddsFan, AreOfFans, AreSortedFans}
+use Rattle.world_engine.specs.Live.{StandsStill, AreLive, position_at, ArePositionsTo, ArePositions, IsOfFan, AddsFan, AreOfFans, AreSortedFans}
 
 -- a number stands in a list, or it does not
 pub listed_or_not : (xs : List ℕ) (x : ℕ) → Contains xs x ⊎ (¬ Contains xs x)

@@ -3,7 +3,6 @@ use Rattle.std.proofs.Common.{◌≡◌, ◌∙◌, ℕ, ◌-◌, ◌<◌, ap, s
 use Rattle.std.proofs.lemmas.Bool.{false≢true}
 use Rattle.std.proofs.lemmas.List.{get_or-map, length-map}
 use Rattle.fixed_box.specs.declared.shapes.Point.{Point}
-use Rattle.fixed_box.specs.declared.shapes.Box3.{Box3}
 use Rattle.obj_text.specs.declared.face.Face.{Face}
 use Rattle.morton_key.specs.Keys.{IsLawful, key_at, tri_at}
 use Rattle.radix_tree.specs.Fit.{box_of_triangle}
@@ -13,7 +12,7 @@ use Rattle.walk_list.specs.declared.records.Leaf.{Leaf}
 use Rattle.walk_list.specs.Leaves.{leaf_of, leaves_of, leaf_at, no_leaf}
 use Rattle.walk_list.specs.Moving.{AreOverBut}
 use Rattle.world_engine.specs.declared.index.Index.{Index}
-use Rattle.world_engine.specs.Kept.{IsIndex, WereFitted}
+use Rattle.world_engine.specs.Kept.{IsIndex}
 use Rattle.world_engine.specs.Live.{AreLive, StandsStill}
 
 module _ (index : Index) (now : List Point) (faces : List Face) (old : IsIndex index now faces)

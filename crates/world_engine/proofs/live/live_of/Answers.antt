@@ -1,4 +1,4 @@
-use Rattle.std.proofs.Common.{rules, subst, sym}
+use Rattle.std.proofs.Common.{rules, subst}
 use Rattle.world_engine.specs.Live.{ArePositions, AreSortedFans}
 use Rattle.world_engine.proofs.LivePositions.{fans_live}
 use Rattle.world_engine.proofs.live.live_of.Goals as goal

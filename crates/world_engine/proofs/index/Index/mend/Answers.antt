@@ -1,10 +1,9 @@
-use Rattle.std.proofs.Common.{◌≡◌, ◌<◌, ◌∙◌, All, ap, length, subst, sym}
+use Rattle.std.proofs.Common.{◌<◌, ◌∙◌, All, ap, length, subst, sym}
 use Rattle.std.specs.Prelude.{IfSome}
 use Rattle.fixed_box.specs.World.{BoxInWorld}
 use Rattle.obj_text.specs.Meshes.{IsFaceOf}
 use Rattle.morton_key.specs.Keys.{IsLawful}
 use Rattle.arrival_core.specs.Tasks.{FitsButFor}
-use Rattle.refit.proofs.LivePositions.{not_falling}
 use Rattle.walk_list.specs.Lists.{IsOver}
 use Rattle.walk_list.specs.Moving.{AreOverBut}
 use Rattle.walk_list.proofs.Moved.{same_keys}
@@ -12,7 +11,7 @@ use Rattle.world_engine.specs.Fans.{AreFans}
 use Rattle.world_engine.specs.Live.{AreLive, ArePositions}
 use Rattle.world_engine.specs.Worlds.{tris_at}
 use Rattle.world_engine.proofs.WorldBoxes.{tris_in_world, boxes_in_world}
-use Rattle.world_engine.proofs.Indexes.{tree_fitted, ways_found, positions_found}
+use Rattle.world_engine.proofs.Indexes.{tree_fitted}
 use Rattle.world_engine.proofs.Standing.{fitted_but, over_but, leaf_count}
 use Rattle.world_engine.proofs.index.Index.mend.Goals as goal
 
