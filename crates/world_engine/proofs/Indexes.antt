@@ -19,6 +19,7 @@ use Rattle.world_engine.specs.declared.last_work.LastWork.TheVariants.{Counted, 
 use Rattle.world_engine.specs.Worlds.{boxes_at}
 use Rattle.world_engine.specs.Marks.{Marked}
 use Rattle.world_engine.specs.Fans.{AreFans}
+use Rattle.world_engine.specs.Live.{ArePositions}
 use Rattle.world_engine.specs.WaysUp.{IsWayUp}
 use Rattle.world_engine.specs.Kept.{IsIndex, IsFittedTo, IsCountable, WereFitted}
 use Rattle.world_engine.proofs.MendedBoxes.{length-boxes_at, right_in_list}
@@ -29,13 +30,15 @@ countable (Counted count) tree boxes fits = tt
 countable (Uncounted around) tree boxes fits = fits
 
 -- what is fitted to the boxes now
-now_fitted : (index : Index) (now : List Point) (faces : List Face) → IsFittedTo index now faces → WereFitted index
+now_fitted : (index : Index) (now : List Point) (faces : List Face) → IsFittedTo index now faces →
+    WereFitted index now faces
 now_fitted index now faces fitted = record {
   before = index.boxes.items;
   count = refl;
   tree = fitted.fits;
   list = fitted.list;
   leaves = fitted.leaves;
+  still = λ t lt still. right_in_list now faces index.boxes.items t lt fitted.each;
 }
 
 -- an index that is fitted, whatever is marked
@@ -43,8 +46,9 @@ pub fitted_index : (index : Index) (now : List Point) (faces : List Face) →
     index.tree.keys ≡ order_of (boxes_at index.built.value.items faces) → length index.tree.keys ≡ length faces →
     index.marks.vertices ≡ length now → IsFittedTo index now faces →
     IfSome index.fans (λ fans. AreFans fans faces (length now)) →
-    IfSome index.ways (λ ways. IsWayUp ways index.tree.keys) → IsIndex index now faces
-fitted_index index now faces keys triangles vertices fitted fans ways = record {
+    IfSome index.ways (λ ways. IsWayUp ways index.tree.keys) →
+    IfSome index.positions (λ positions. ArePositions positions.items index.tree.keys) → IsIndex index now faces
+fitted_index index now faces keys triangles vertices fitted fans ways positions = record {
   boxes = ap length fitted.each ∙ length-boxes_at now faces;
   triangles = triangles;
   keys = keys;
@@ -54,6 +58,7 @@ fitted_index index now faces keys triangles vertices fitted fans ways = record {
   were = now_fitted index now faces fitted;
   ways = ways;
   fans = fans;
+  positions = positions;
   work = countable index.work index.tree index.boxes.items fitted.fits;
 }
 
@@ -82,23 +87,26 @@ module _ (index : Index) (now : List Point) (faces : List Face) (old : IsIndex i
       tree = old.were.tree;
       list = old.were.list;
       leaves = old.were.leaves;
+      still = old.were.still;
     };
     ways = old.ways;
     fans = chained;
+    positions = old.positions;
     work = tt;
   }
 
   -- and with tree and list fitted to them
   pub tree_fitted : (boxes : List Box3) (tree : Contents) (list : lists.Contents) (ways : Option BuiltWays)
-      (marks : Marked) →
+      (positions : Option (Vec ℕ Global)) (marks : Marked) →
       index.boxes.items ≡ boxes_at now faces → boxes ≡ index.boxes.items → tree.keys ≡ index.tree.keys →
       tree.nodes ≡ table_of index.tree.keys boxes → IsFitted tree boxes → IsOver list index.boxes.items →
       list.leaves ≡ leaves_of index.tree.keys index.boxes.items →
-      IfSome ways (λ w. IsWayUp w index.tree.keys) → marks.vertices ≡ index.marks.vertices →
-      IsIndex (record index { tree = tree; list = list; ways = ways; marks = marks }) now faces
-  tree_fitted boxes tree list ways marks made same keys nodes fits over leaves up vertices =
-      fitted_index (record index { tree = tree; list = list; ways = ways; marks = marks }) now faces (keys ∙ old.keys)
-      (ap length keys ∙ old.triangles) (vertices ∙ old.vertices) (record {
+      IfSome ways (λ w. IsWayUp w index.tree.keys) →
+      IfSome positions (λ ps. ArePositions ps.items index.tree.keys) → marks.vertices ≡ index.marks.vertices →
+      IsIndex (record index { tree = tree; list = list; ways = ways; positions = positions; marks = marks }) now faces
+  tree_fitted boxes tree list ways positions marks made same keys nodes fits over leaves up stand vertices =
+      fitted_index (record index { tree = tree; list = list; ways = ways; positions = positions; marks = marks })
+      now faces (keys ∙ old.keys) (ap length keys ∙ old.triangles) (vertices ∙ old.vertices) (record {
         each = made;
         nodes = nodes ∙ (ap (λ ks. table_of ks boxes) old.keys
             ∙ ap (table_of (order_of (boxes_at index.built.value.items faces))) (same ∙ made));
@@ -106,6 +114,7 @@ module _ (index : Index) (now : List Point) (faces : List Face) (old : IsIndex i
         list = over;
         leaves = leaves ∙ ap (λ ks. leaves_of ks index.boxes.items) (sym keys);
       }) old.fans (subst (λ ks. IfSome ways (λ w. IsWayUp w ks)) (sym keys) up)
+      (subst (λ ks. IfSome positions (λ ps. ArePositions ps.items ks)) (sym keys) stand)
 
   -- with the way up found, or lost, where the tree is as it was
   pub ways_found : (tree : Contents) (ways : Option BuiltWays) → tree ≡ index.tree →
@@ -130,11 +139,44 @@ module _ (index : Index) (now : List Point) (faces : List Face) (old : IsIndex i
           tree = old.were.tree;
           list = old.were.list;
           leaves = old.were.leaves;
+          still = old.were.still;
         };
         ways = up;
         fans = old.fans;
+        positions = old.positions;
         work = old.work;
       })
+
+  -- with the positions of triangles found, or lost
+  pub positions_found : (positions : Option (Vec ℕ Global)) →
+      IfSome positions (λ ps. ArePositions ps.items index.tree.keys) →
+      IsIndex (record index { positions = positions }) now faces
+  positions_found positions stand = record {
+    boxes = old.boxes;
+    triangles = old.triangles;
+    keys = old.keys;
+    vertices = old.vertices;
+    right = old.right;
+    fitted = λ still. record {
+      each = (old.fitted still).each;
+      nodes = (old.fitted still).nodes;
+      fits = (old.fitted still).fits;
+      list = (old.fitted still).list;
+      leaves = (old.fitted still).leaves;
+    };
+    were = record {
+      before = old.were.before;
+      count = old.were.count;
+      tree = old.were.tree;
+      list = old.were.list;
+      leaves = old.were.leaves;
+      still = old.were.still;
+    };
+    ways = old.ways;
+    fans = old.fans;
+    positions = stand;
+    work = old.work;
+  }
 
   -- with another box whose work is not counted yet, where no vertex is marked
   pub box_asked : (around : Box3) → index.marks.moved ≡ [] →
@@ -147,4 +189,4 @@ module _ (index : Index) (now : List Point) (faces : List Face) (old : IsIndex i
         fits = fitted.fits;
         list = fitted.list;
         leaves = fitted.leaves;
-      }) old.fans old.ways
+      }) old.fans old.ways old.positions

@@ -6,6 +6,7 @@ pub mod WorldBoxes
 pub mod FanLaws
 pub mod Marking
 pub mod MendedBoxes
+pub mod LivePositions
 pub mod Indexes
 pub mod Standing
 pub mod MovedVertices

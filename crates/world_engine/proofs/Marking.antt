@@ -6,7 +6,7 @@ use Rattle.std.specs.Vec.{vec_capacity}
 use Rattle.std.specs.declared.alloc.Global.{Global}
 use Rattle.std.proofs.Math.ListN.{length-set}
 use Rattle.std.proofs.lemmas.Bool.{cases_eq, false≢true}
-use Rattle.std.proofs.lemmas.List.{get_or-set_other, length-append}
+use Rattle.std.proofs.lemmas.List.{get_or-set_same, get_or-set_other, length-append}
 use Rattle.std.proofs.lemmas.List.Elements.{All-push, All-weaker, Contains-push, Contains-append_left}
 use Rattle.std.proofs.lemmas.List.Sums.{sum_by-set, sum_by-cons, count_by-le-length}
 use Rattle.world_engine.specs.Marks.{IsMarking}
@@ -45,6 +45,15 @@ marked_more flags list new v old lt off items capacity =
           (All-weaker (λ u. u < length flags) (λ u. u < length (set flags v true))
           (λ u below. omega (arith, below, length-set flags v true)) list.items old.within)
           (omega (arith, lt, length-set flags v true)));
+      flagged = subst (All (λ u. get_or (set flags v true) u false ≡ true)) (sym items)
+          (All-push (λ u. get_or (set flags v true) u false ≡ true) list.items v
+          (All-weaker (λ u. get_or flags u false ≡ true) (λ u. get_or (set flags v true) u false ≡ true)
+          (λ u up. elim (cases_eq u v) [
+            | inl e ↦ subst (λ w. get_or (set flags v true) w false ≡ true) (sym e)
+                (get_or-set_same flags v true false lt)
+            | inr ne ↦ get_or-set_other flags v u true false ne ∙ up
+          ]) list.items old.flagged)
+          (get_or-set_same flags v true false lt));
       listed = λ u up. subst (λ xs. Contains xs u) (sym items) (elim (cases_eq u v) [
         | inl e ↦ subst (Contains (list.items ++ v ∷ [])) (sym e) (Contains-push list.items v)
         | inr ne ↦ Contains-append_left list.items (v ∷ []) u
@@ -66,6 +75,7 @@ pub marked_none : (flags : List Bool) (list : Vec ℕ Global) → list.items ≡
     ((v : ℕ) → get_or flags v false ≡ false) → IsMarking flags list
 marked_none flags list items room off = record {
   within = subst (All (λ u. u < length flags)) (sym items) (λ k d lt. absurd (omega arith));
+  flagged = subst (All (λ u. get_or flags u false ≡ true)) (sym items) (λ k d lt. absurd (omega arith));
   listed = λ u up. absurd (false≢true (sym (off u) ∙ up));
   each_once = none_counted flags off ∙ sym (ap length items);
   room = room;

@@ -48,8 +48,11 @@ module _ (index : Index) (now : List Point) (faces : List Face) (old : IsIndex i
       tree = old.were.tree;
       list = old.were.list;
       leaves = old.were.leaves;
+      still = λ t lt still. old.were.still t lt (λ v among. still v (kept v among))
+          ∙ sym (ap tri_box (tri_stays now p to (face_at faces t) (still p marked)));
     };
     ways = old.ways;
     fans = subst (λ n. IfSome index.fans (λ fans. AreFans fans faces n)) (sym (length-set now p to)) old.fans;
+    positions = old.positions;
     work = old.work;
   }

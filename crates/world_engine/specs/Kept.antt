@@ -1,6 +1,5 @@
 -- What a world keeps beside its mesh and its points. No public clause cites this module.
 use Rattle.std.specs.Prelude.{◌≡◌, ℕ, ◌<◌, ◌≤◌, Bool, true, List, [], All, length, slice_index_or, IfSome}
-use Rattle.std.specs.List.{Contains}
 use Rattle.fixed_box.specs.Extent.{tri_box}
 use Rattle.fixed_box.specs.declared.shapes.Point.{Point}
 use Rattle.fixed_box.specs.declared.shapes.Box3.{Box3}
@@ -21,7 +20,8 @@ use Rattle.world_engine.specs.declared.last_work.LastWork.{LastWork}
 use Rattle.world_engine.specs.declared.last_work.LastWork.TheVariants.{Counted, Uncounted}
 use Rattle.world_engine.specs.Worlds.{tri_of, boxes_at}
 use Rattle.world_engine.specs.WaysUp.{IsWayUp}
-use Rattle.world_engine.specs.Fans.{HasVertex, face_at, AreFans}
+use Rattle.world_engine.specs.Fans.{face_at, AreFans}
+use Rattle.world_engine.specs.Live.{IsStill, ArePositions}
 
 -- the box of the triangle at a position
 abbrev pub box_at : List Point → List Face → ℕ → Box3
@@ -30,10 +30,6 @@ box_at points faces position = tri_box (tri_of points (face_at faces position))
 -- the box at a position is that of its triangle
 abbrev pub IsRight : List Point → List Face → List Box3 → ℕ → Type 0
 IsRight points faces boxes position = slice_index_or boxes position no_box ≡ box_at points faces position
-
--- no corner of the face was moved
-abbrev pub IsStill : List ℕ → Face → Type 0
-IsStill moved face = (v : ℕ) → Contains moved v → ¬ HasVertex face v
 
 -- a work that is kept, over keys and boxes
 abbrev pub work_left : LastWork → List Key → List Box3 → ℕ
@@ -58,17 +54,18 @@ pub record IsFittedTo (index : Index) (now : List Point) (faces : List Face) : T
   pub leaves : index.list.leaves ≡ leaves_of index.tree.keys index.boxes.items
 
 -- the tree is fitted to as many boxes as there are now, and the list is that of its triangles over the same: these are
--- the boxes now, or those before vertices were moved
-pub record WereFitted (index : Index) : Type 0 where
+-- right where no corner is marked as moved
+pub record WereFitted (index : Index) (now : List Point) (faces : List Face) : Type 0 where
   pub before : List Box3
   pub count : length index.boxes.items ≡ length before
   pub tree : IsFitted index.tree before
   pub list : IsOver index.list before
   pub leaves : index.list.leaves ≡ leaves_of index.tree.keys before
+  pub still : (t : ℕ) → t < length faces → IsStill index.marks.moved (face_at faces t) → IsRight now faces before t
 
 -- a box and a key for each face, the box right where no corner is marked as moved; a tree over the order of the points
 -- of the build and a list of as many triangles, both fitted where no vertex is marked; the chains of triangles at the
--- vertices, once needed; and the last work, which can be counted
+-- vertices, the positions of triangles and the way up, once needed; and the last work, which can be counted
 pub record IsIndex (index : Index) (now : List Point) (faces : List Face) : Type 0 where
   pub boxes : length index.boxes.items ≡ length faces
   pub triangles : length index.tree.keys ≡ length faces
@@ -77,9 +74,10 @@ pub record IsIndex (index : Index) (now : List Point) (faces : List Face) : Type
   pub right : (t : ℕ) → t < length faces → IsStill index.marks.moved (face_at faces t) →
       IsRight now faces index.boxes.items t
   pub fitted : index.marks.moved ≡ [] → IsFittedTo index now faces
-  pub were : WereFitted index
+  pub were : WereFitted index now faces
   pub ways : IfSome index.ways (λ ways. IsWayUp ways index.tree.keys)
   pub fans : IfSome index.fans (λ fans. AreFans fans faces (length now))
+  pub positions : IfSome index.positions (λ positions. ArePositions positions.items index.tree.keys)
   pub work : IsCountable index.work index.tree index.boxes.items
 
 -- faces over points of the world, a count of workers, and an index over the faces, in which no vertex is marked where

@@ -4,6 +4,7 @@ pub mod Worlds
 pub mod Refusals
 pub mod Outputs
 pub mod Fans
+pub mod Live
 pub mod Marks
 pub mod WaysUp
 pub mod Kept

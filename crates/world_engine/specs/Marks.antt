@@ -12,6 +12,7 @@ pub record Marked : Type 0 where
 -- a flag for each vertex, and a list of those that are flagged, with room for all
 pub record IsMarking (flags : List Bool) (list : Vec ℕ Global) : Type 0 where
   pub within : All (λ v. v < length flags) list.items
+  pub flagged : All (λ v. slice_index_or flags v false ≡ true) list.items
   pub listed : (v : ℕ) → slice_index_or flags v false ≡ true → Contains list.items v
   pub each_once : count_by (λ flag. flag) flags ≡ length list.items
   pub room : length flags ≤ vec_capacity list

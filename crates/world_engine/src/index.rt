@@ -13,6 +13,7 @@ use crate::builds::{fit_tree, tree_of};
 use crate::corners::boxes_of;
 use crate::fans::Fans;
 use crate::last_work::LastWork;
+use crate::live::live_of;
 use crate::marks::Marks;
 use crate::mending::fit_moved;
 use crate::ways::BuiltWays;
@@ -45,6 +46,8 @@ pub struct Index {
     pub fans: Option<Fans>,
     /// The way up in the tree, once it was needed.
     pub ways: Option<BuiltWays>,
+    /// The position of each triangle in the order of the tree, once it was needed: that of triangle `t` at `t - 1`.
+    pub positions: Option<Vec<u32>>,
 }
 
 impl Index {
@@ -83,6 +86,7 @@ impl Index {
             marks,
             fans: None,
             ways: None,
+            positions: None,
         })
     }
 
@@ -149,19 +153,26 @@ impl Index {
             return Ok(());
         }
         self.fit_boxes(alloc, points, faces)?;
-        let moved = self.list.moved(alloc, &self.boxes)?;
+        let live = live_of(
+            alloc,
+            faces,
+            self.tree.keys(),
+            &self.marks,
+            &self.fans,
+            &mut self.positions,
+        )?;
         fit_tree(
             rt,
             alloc,
             build,
             &mut self.tree,
             &self.boxes,
-            &moved,
+            &live,
             &mut self.ways,
             workers,
             gate,
         )?;
-        self.list.refit(&self.boxes, &moved);
+        self.list.refit(&self.boxes, &live);
         self.marks.clear();
         Ok(())
     }
@@ -196,6 +207,7 @@ impl Index {
         self.list = flatten(alloc, &tree, &self.boxes)?;
         self.tree = tree;
         self.ways = None;
+        self.positions = None;
         self.marks.clear();
         self.built = Snapshot::of(points);
         Ok(())

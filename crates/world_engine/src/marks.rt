@@ -27,7 +27,7 @@ impl Model for Marks {
 }
 
 impl Marks {
-    ghost use Rattle.std.specs.Prelude.{◌≡◌, ◌<◌, ◌==◌, ℕ, [], All, length, IfOk};
+    ghost use Rattle.std.specs.Prelude.{◌≡◌, ◌<◌, ◌==◌, ◌↔◌, ℕ, [], All, length, IfOk, IsTrue};
     ghost use Rattle.std.specs.List.{Contains};
 
     /// Marks for so many vertices, and none of them marked.
@@ -53,6 +53,14 @@ impl Marks {
         ensures within { All (λ v. v < self.now.vertices) self.now.moved }
     {
         &self.list
+    }
+
+    /// Whether the vertex is marked.
+    pub fn has(&self, vertex: u32) -> bool
+        requires { vertex < self.now.vertices }
+        ensures { IsTrue result ↔ Contains self.now.moved vertex }
+    {
+        self.flags[vertex as usize]
     }
 
     /// Marks the vertex. It takes no memory.

@@ -4,7 +4,8 @@ ghost use Rattle.std.specs.Prelude.{◌≡◌, ℕ, ◌<◌, length, All};
 ghost use Rattle.obj_text.specs.Meshes.{IsFaceOf};
 ghost use Rattle.world_engine.specs.Worlds.{boxes_at};
 ghost use Rattle.world_engine.specs.Fans.{HasVertex, face_at, AreFans};
-ghost use Rattle.world_engine.specs.Kept.{IsRight, IsStill};
+ghost use Rattle.world_engine.specs.Live.{IsStill};
+ghost use Rattle.world_engine.specs.Kept.{IsRight};
 
 use crate::corners::triangle;
 use crate::fans::Fans;

@@ -10,4 +10,4 @@ returns-clause-index g c =
       fits = search rules;
       list = search rules;
       leaves = search rules;
-    }) tt tt
+    }) tt tt tt

@@ -2,7 +2,8 @@ use Rattle.std.proofs.Common.{Some, ◌∙◌, arith, rules, subst, sym}
 use Rattle.std.proofs.lemmas.List.{take_at}
 use Rattle.std.specs.Vec.{with_items}
 use Rattle.world_engine.specs.Fans.{face_at}
-use Rattle.world_engine.specs.Kept.{IsRight, IsStill}
+use Rattle.world_engine.specs.Live.{IsStill}
+use Rattle.world_engine.specs.Kept.{IsRight}
 use Rattle.world_engine.proofs.Indexes.{boxes_made}
 use Rattle.world_engine.proofs.index.Index.fit_boxes.Goals as goal
 

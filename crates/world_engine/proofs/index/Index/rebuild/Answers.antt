@@ -60,4 +60,4 @@ returns-clause-index g c =
       list = subst (IsOver c.in_ok-self.field-0) c.deref-4.ensures.value c.in_ok-self.ensures.over;
       leaves = c.in_ok-self.ensures.leaves ∙ ap (leaves_of c.in_ok-tree.tree.keys) c.deref-4.ensures.value;
     })
-    (subst (λ n. IfSome c.fit_boxes.new.self.fans (λ fans. AreFans fans faces n)) count old.fans) tt
+    (subst (λ n. IfSome c.fit_boxes.new.self.fans (λ fans. AreFans fans faces n)) count old.fans) tt tt
