@@ -3,7 +3,7 @@
 
 ghost use Rattle.std.specs.Prelude.{◌<◌};
 
-use super::asked;
+use super::asking::asked;
 use crate::{Build, World};
 use fixed_box::{Box3, Point, Tri, box_of, in_world, union};
 use morton_key::order;
