@@ -6,7 +6,8 @@ ghost use Rattle.box_handoff.specs.Ends.{AreEnds};
 ghost use Rattle.karras_build.specs.Spans.{AreSpans};
 
 use crate::{
-    Links, Span, boxes_of, build, find, fit_joined, links_of, order_by_threads, spans, tree_by_threads,
+    Links, Span, boxes_of, build, find, fit_joined, links_of, order_by_threads, spans,
+    tree_by_threads,
 };
 use arrival_core::{Side, Up};
 use box_handoff::Ways;
