@@ -1,5 +1,5 @@
-//! Runs over as many triangles as a mesh may have: all with one code, and in the deepest tree that codes allow. And a
-//! script of one byte too many.
+//! Runs over as many triangles as a mesh may have, in the deepest tree that codes allow. And a script of one byte too
+//! many.
 
 use crate::words::words_of;
 use outside::{MemShelf, MemSink, MemSource, Name, OpenGate};
@@ -19,7 +19,7 @@ const SCRIPT_MOST: usize = 16_777_216;
 /// How many bits a code has.
 const BITS: u32 = 54;
 
-/// Room for the longest output of these runs, the numbers of all triangles twice.
+/// Room for the longest output of these runs, the numbers of all triangles.
 const ROOM: usize = 16_000_000;
 
 /// A text many times.
@@ -72,39 +72,6 @@ fn comes_to<R: Threads + Sync + Abort + AllocGlobal>(
         assert!(rt; sink.bytes() == output, "output of {name}, {line}");
     }
     Ok(())
-}
-
-#[test]
-fn triangles_that_all_have_one_code_are_met_by_box_and_segment(
-    rt: HostRuntime,
-) -> Result<(), Fail> {
-    let alloc = rt.alloc();
-    let mut mesh = Vec::from_slice(alloc, b"v 0 0 0\nv 4 0 0\nv 0 4 0\n")?;
-    mesh.extend_from_slice(&many(alloc, b"f 1 2 3\n", MOST)?)?;
-    let met = all_numbers(alloc)?;
-    let mut output = Vec::new(alloc);
-    output.extend_from_slice(&met)?;
-    output.extend_from_slice(
-        b"work 2097151\nhit 1 1/2\ntriangles 1048576 nodes 1048575 height 20 cells 19\nnode 0 0 1048575 524287 0 0 0 4 4 0\ncells 18 1: 15762598695796784\n",
-    )?;
-    comes_to(
-        &rt,
-        &mesh,
-        b"box 4 4 0 9 9 0\nwork\nseg 1 1 -1 1 1 1\nstat\nnode 0\ncells 18\n",
-        Status::Done,
-        &output,
-        "one code",
-    )?;
-    // one more, on its line
-    mesh.extend_from_slice(b"f 1 2 3\n")?;
-    comes_to(
-        &rt,
-        &mesh,
-        b"stat\n",
-        Status::MeshRefused,
-        b"mesh line 1048580: too many triangles\n",
-        "one triangle too many",
-    )
 }
 
 /// The vertex whose code has one bit set, as a line. Bits go round the axes: the lowest is one of z, the next of y, the
