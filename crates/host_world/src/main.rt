@@ -6,16 +6,35 @@
 ghost use Rattle.query_script.specs.Asks.{IsAskable};
 
 use fixed_box::{Box3, Point};
-use obj_text::read_mesh;
-use outside::OpenGate;
+use obj_text::{ArrayFault, Face, Mesh, one_group};
+use outside::{Name, OpenGate};
 use query_script::{Ask, Reply};
+use std::alloc::Global;
 use std::io;
 use std::thread::Threads;
 use world_engine::{Build, World};
 
-/// A floor of two triangles, and one above it.
-const MESH: &[u8] =
-    b"v 0 0 0\nv 8 0 0\nv 8 8 0\nv 0 8 0\nf 1 2 3 4\nv 0 0 4\nv 8 0 4\nv 8 8 4\nf 5 6 7\n";
+/// A point, in grid steps.
+fn at(x: i32, y: i32, z: i32) -> Point {
+    Point { x, y, z }
+}
+
+/// A floor of two triangles, and one above it, in one group; or why these arrays are no mesh.
+fn own_mesh(alloc: Global) -> io::Result<Result<Mesh, ArrayFault>> {
+    let floor = [at(0, 0, 0), at(8, 0, 0), at(8, 8, 0), at(0, 8, 0)];
+    let above = [at(0, 0, 4), at(8, 0, 4), at(8, 8, 4)];
+    let mut points = floor.to_vec(alloc)?;
+    points.extend_from_slice(&above)?;
+    let mut faces = Vec::new(alloc);
+    for (a, b, c) in [(0, 1, 2), (0, 2, 3), (4, 5, 6)] {
+        faces.push(Face { a, b, c })?;
+    }
+    let name = Name::new(b"house".to_vec(alloc)?);
+    let Ok((group_of, groups)) = one_group(alloc, faces.len(), name) else {
+        return Err(io::ErrorKind::OutOfMemory.into());
+    };
+    Ok(Mesh::of(points, faces, group_of, groups))
+}
 
 /// Asks the world, and writes what it replies.
 fn tell<R: Threads + Sync + Print + AllocGlobal>(
@@ -41,8 +60,9 @@ fn tell<R: Threads + Sync + Print + AllocGlobal>(
 }
 
 fn main(rt: HostRuntime) -> io::Result<()> {
-    let Ok(mesh) = read_mesh(rt.alloc(), MESH, 1) else {
-        return Err(io::ErrorKind::InvalidData.into());
+    let mesh = match own_mesh(rt.alloc())? {
+        Ok(mesh) => mesh,
+        Err(fault) => return println!(rt; "no mesh: {fault}"),
     };
     let Ok(mut world) = World::new(&rt, rt.alloc(), mesh, Build::Karras, 4, &OpenGate) else {
         return Err(io::ErrorKind::OutOfMemory.into());
