@@ -29,3 +29,16 @@ returns-in_err-mend-clause-free g c = λ free.
     (omega (arith, count, c.if-nodes-number.false)) free in
     absurd (false≢true
     (c.in_err-mend.ensures.free (c.self.invariant.settled (ap (λ w. w.settled) c.self.view_is ∙ rest))))
+
+pub invariant_of-self-2 : goal.invariant_of-self-2
+invariant_of-self-2 g c = record {
+  in_world = c.self.invariant.in_world;
+  few = c.self.invariant.few;
+  named = c.self.invariant.named;
+  some_workers = c.self.invariant.some_workers;
+  few_workers = c.self.invariant.few_workers;
+  index = subst (λ faces. IsIndex c.mend.new.self c.self.inside.points.items faces) c.faces.ensures.faces
+      (subst (λ points. IsIndex c.mend.new.self points c.faces.result.now) c.deref.ensures.value
+      c.in_ok-mend.ensures.index);
+  settled = λ rest. c.in_ok-mend.ensures.mended;
+}
