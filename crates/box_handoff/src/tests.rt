@@ -77,7 +77,7 @@ fn both<R: Threads + Sync + Abort, G: Gate>(
     let slow = plain(alloc, order(alloc, boxes)?, boxes)?;
     let ways = TreeWays::of(alloc, &slow)?;
     let keys = order(alloc, boxes)?;
-    let at_once = fit_nodes(rt, alloc, &ways, gate, slow.keys(), boxes, workers)?;
+    let at_once = fit_nodes(rt, alloc, &ways, &OpenGate, slow.keys(), boxes, workers)?;
     assert!(rt; at_once.nodes.as_slice() == slow.nodes());
     let fitted = fit(rt, alloc, &ways, gate, slow.keys(), boxes, workers)?;
     assert!(rt; at_once.tally == fitted.tally);
