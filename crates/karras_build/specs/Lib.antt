@@ -1,4 +1,5 @@
 pub mod Spans
+pub mod Packing
 pub mod Reaching
 pub mod Parts
 pub mod Halves

@@ -11,6 +11,7 @@ mod handing_up;
 mod inputs;
 mod links;
 mod ordering;
+mod packing;
 mod ranges;
 mod searching;
 mod tri_boxes;

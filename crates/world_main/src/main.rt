@@ -22,7 +22,26 @@ fn words<R: Env + AllocGlobal>(rt: &R) -> Result<Vec<String>, Memory> {
     }
 }
 
+/// glibc learns from lists of less than 32 MB, with what it notes beside them: two pages less is sure to be one.
+const ROOM: usize = (1 << 25) - 8192;
+
+/// Drops a list. It stands apart so that no compiler sees the list made and dropped, and makes none.
+#[inline(never)]
+fn give_back(_room: Vec<u8>) {}
+
+/// Takes room for a long list and gives it back untouched.
+///
+/// At first glibc asks the system for fresh pages for each list of 128 KB or more and returns them when the list is
+/// dropped; once a longer list was dropped it keeps them for the next one. The first touch of fresh pages is a good part
+/// of what opening a world takes. No reply depends on this, nor on whether there is room.
+fn keep_pages<R: AllocGlobal>(rt: &R) {
+    if let Ok(room) = Vec::with_capacity(rt.alloc(), ROOM) {
+        give_back(room);
+    }
+}
+
 fn main(rt: HostRuntime) -> ExitCode {
+    keep_pages(&rt);
     let status = match words(&rt) {
         Ok(words) => {
             let mut shelf = FileShelf::new(&rt);
