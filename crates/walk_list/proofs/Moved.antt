@@ -16,8 +16,8 @@ use Rattle.walk_list.specs.declared.records.Record.{Record}
 use Rattle.walk_list.specs.Leaves.{leaf_of, leaves_of, leaf_at, no_leaf}
 use Rattle.walk_list.specs.Covering.{Bounds, Covers, CoversBy, run, fork}
 use Rattle.walk_list.specs.Lists.{Contents, IsOver}
-use Rattle.walk_list.specs.Moving.{AreOverBut, IsOverAsMany, IsFitTo}
-use Rattle.walk_list.specs.Stale.{BoundsBut, AreInWorld, HaveBoxes, Moves}
+use Rattle.walk_list.specs.Moving.{AreOverBut}
+use Rattle.walk_list.specs.Stale.{BoundsBut, AreInWorld, HaveBoxes, IsFitTo, Moves}
 
 -- no position moved
 pub moves_none : (boxes : List Box3) (leaves : List Leaf) → Moves boxes [] leaves leaves
@@ -151,31 +151,33 @@ have_boxes leaves boxes moved but = record {
       omega (arith, but.numbers p within, but.lawful.to_count p within, but.count);
 }
 
-module _ (f : Contents) (boxes : List Box3) (many : IsOverAsMany f boxes) where
+module _ (f : Contents) (before boxes : List Box3) (over : IsOver f before) (same : length boxes ≡ length before) where
   -- the leaf at a position is its key's, with the box of before
-  leaf_was : (p : ℕ) → p < length many.over.keys →
-      leaf_at f.leaves p ≡ leaf_of many.before (key_at many.over.keys p)
+  leaf_was : (p : ℕ) → p < length over.keys →
+      leaf_at f.leaves p ≡ leaf_of before (key_at over.keys p)
   unfolding leaf_at leaves_of key_at
   leaf_was p lt =
-      ap (λ ls. get_or ls p no_leaf) many.over.leaves
-      ∙ get_or-map (leaf_of many.before) many.over.keys p (record { code = 0; tri = 0 }) no_leaf lt
+      ap (λ ls. get_or ls p no_leaf) over.leaves
+      ∙ get_or-map (leaf_of before) over.keys p (record { code = 0; tri = 0 }) no_leaf lt
 
-  number_was : (p : ℕ) → p < length many.over.keys → (leaf_at f.leaves p).number ≡ tri_at many.over.keys p
+  -- so it has that key's number
+  number_was : (p : ℕ) → p < length over.keys → (leaf_at f.leaves p).number ≡ tri_at over.keys p
   unfolding leaf_of tri_at
   number_was p lt = ap (λ (l : Leaf). l.number) (leaf_was p lt)
 
-  count_was : length f.leaves ≡ length many.over.keys
+  -- there is one for each key
+  count_was : length f.leaves ≡ length over.keys
   unfolding leaves_of
-  count_was = ap length many.over.leaves ∙ length-map many.over.keys (leaf_of many.before)
+  count_was = ap length over.leaves ∙ length-map over.keys (leaf_of before)
 
   -- where each leaf has its box or is listed, the list is over the boxes but for those
   pub over_but : (moved : List ℕ) →
       ((p : ℕ) → p < length f.leaves → Contains moved p ⊎ IsFitTo boxes (leaf_at f.leaves p)) →
       AreOverBut f.leaves boxes moved
   over_but moved each = record {
-    keys = many.over.keys;
-    lawful = many.over.lawful;
-    count = many.count ∙ many.over.count;
+    keys = over.keys;
+    lawful = over.lawful;
+    count = same ∙ over.count;
     leaf_count = count_was;
     numbers = number_was;
     fits = λ p lt. elim (each p (omega (arith, lt, count_was))) [
@@ -184,19 +186,20 @@ module _ (f : Contents) (boxes : List Box3) (many : IsOverAsMany f boxes) where
     ];
   }
 
-  -- each leaf's number is that of a box, and a position fits 32 bits
-  pub as_many_have_boxes : HaveBoxes f.leaves boxes
-  as_many_have_boxes = record {
+  -- each leaf's number is that of a box
+  pub list_has_boxes : HaveBoxes f.leaves boxes
+  list_has_boxes = record {
     from_one = λ p lt.
-        let within : p < length many.over.keys = omega (arith, lt, count_was) in
-        omega (arith, number_was p within, many.over.lawful.from_one p within);
+        let within : p < length over.keys = omega (arith, lt, count_was) in
+        omega (arith, number_was p within, over.lawful.from_one p within);
     to_count = λ p lt.
-        let within : p < length many.over.keys = omega (arith, lt, count_was) in
-        omega (arith, number_was p within, many.over.lawful.to_count p within, many.count, many.over.count);
+        let within : p < length over.keys = omega (arith, lt, count_was) in
+        omega (arith, number_was p within, over.lawful.to_count p within, same, over.count);
   }
 
-  pub as_many_few : length f.leaves < 2 ^ 32
-  as_many_few = omega (arith, count_was, many.over.lawful.few)
+  -- and a position fits 32 bits
+  pub few_leaves : length f.leaves < 2 ^ 32
+  few_leaves = omega (arith, count_was, over.lawful.few)
 
 -- a list over boxes whose triangles stand where the keys' do is the list of the keys
 pub same_keys : (f g : Contents) (keys : List Key) (before boxes : List Box3) →

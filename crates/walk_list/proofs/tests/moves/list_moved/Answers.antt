@@ -4,11 +4,11 @@ use Rattle.radix_tree.specs.Fit.{box_of_triangle}
 use Rattle.radix_tree.specs.Table.{no_box}
 use Rattle.walk_list.specs.declared.records.Leaf.{Leaf}
 use Rattle.walk_list.specs.Leaves.{leaf_at, no_leaf}
-use Rattle.walk_list.specs.Moving.{IsFitTo}
+use Rattle.walk_list.specs.Stale.{IsFitTo}
 use Rattle.walk_list.specs.Stale.{ListsMoved}
 use Rattle.refit.proofs.Listed.{told_false, lists_none, lists_one, lists_same}
-use Rattle.walk_list.proofs.moving.list_moved.Goals as goal
-use Rattle.walk_list.proofs.moving.list_moved.Goals.{then-not-has_box+in_ok-push, else-not-has_box}
+use Rattle.walk_list.proofs.tests.moves.list_moved.Goals as goal
+use Rattle.walk_list.proofs.tests.moves.list_moved.Goals.{then-not-has_box+in_ok-push, else-not-has_box}
 
 pub loop-position-init : goal.loop-position-init
 loop-position-init c = lists_none (λ p. IsFitTo c.args.boxes.now (leaf_at c.args.leaves.now p)) c.args.moved.now.items c.requires.empty
