@@ -1,4 +1,4 @@
-use Rattle.std.proofs.Common.{◌≡◌, get_or, subst, ap, ◌∙◌, arith, rules}
+use Rattle.std.proofs.Common.{◌≡◌, subst, ap, ◌∙◌, arith, rules}
 use Rattle.walk_list.specs.declared.records.Record.{Record}
 use Rattle.walk_list.specs.Records.{record_at}
 use Rattle.walk_list.specs.Stale.{IsMovedBetween}

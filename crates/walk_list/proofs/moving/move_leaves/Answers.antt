@@ -1,7 +1,5 @@
-use Rattle.std.proofs.Common.{◌<◌, ◌-◌, length, get_or, set, take, subst, sym, refl, arith, rules}
+use Rattle.std.proofs.Common.{refl, arith, rules}
 use Rattle.std.proofs.lemmas.List.{take_more}
-use Rattle.walk_list.specs.declared.records.Leaf.{Leaf}
-use Rattle.walk_list.specs.Stale.{Moves}
 use Rattle.walk_list.proofs.Moved.{moves_none, moves_more, next_read}
 use Rattle.walk_list.proofs.moving.move_leaves.Goals as goal
 
