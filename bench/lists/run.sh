@@ -1,7 +1,7 @@
 #!/usr/bin/env bash
 # walk_list's walks beside traversal's over the same height fields, in one program: small and large boxes, steep and
-# slanted segments, whole calls; what making a list takes, and what mending it takes. In each round both walks answer the
-# same queries in turn, and what they find has to agree. The ratios are medians over the rounds.
+# slanted segments, whole calls; and what making a list takes. In each round both walks answer the same queries in turn,
+# and what they find has to agree. The ratios are medians over the rounds.
 #
 #     bench/lists/run.sh [PROGRAM]      PROGRAM: one that an earlier run has built
 #
@@ -15,7 +15,7 @@ program=${1:-}
 
 if [ -z "$program" ]; then
     mkdir -p "$work/crates/list_speed/src"
-    for crate in outside fixed_box morton_key radix_tree segment_hit traversal walk_list; do
+    for crate in outside fixed_box morton_key radix_tree arrival_core box_handoff refit segment_hit traversal walk_list; do
         mkdir -p "$work/crates/$crate"
         (cd "$here/../../crates/$crate" && cp -r src specs proofs "$work/crates/$crate/")
         grep "^$crate:" "$here/../../crates.txt" >> "$work/crates.txt"
@@ -328,51 +328,6 @@ fn build_round(rt: &HostRuntime, boxes: &[Box3], side: u32) -> Result<(), Fail> 
     Ok(())
 }
 
-/// The boxes, each `every`th of them some steps higher.
-fn raised(alloc: Global, boxes: &[Box3], every: usize) -> Result<Vec<Box3>, AllocError> {
-    let mut moved = Vec::new(alloc);
-    let mut wait = every;
-    for b in boxes {
-        wait = wait.saturating_sub(1);
-        if wait == 0 {
-            wait = every;
-            let lo = Point {
-                x: b.lo.x,
-                y: b.lo.y,
-                z: b.lo.z.saturating_add(9),
-            };
-            let hi = Point {
-                x: b.hi.x,
-                y: b.hi.y,
-                z: b.hi.z.saturating_add(9),
-            };
-            moved.push(Box3::of_corners(lo, hi))?;
-        } else {
-            moved.push(*b)?;
-        }
-    }
-    Ok(moved)
-}
-
-/// Times what finding the moved leaves takes, and what mending their records takes.
-fn refit_round(rt: &HostRuntime, t: &Tree, before: &[Box3], side: u32, every: usize) -> Result<(), Fail>
-    requires { IsFitted t.now before.now }
-{
-    let boxes = raised(rt.alloc(), before, every)?;
-    let mut list = list_of(rt.alloc(), t, before)?;
-    if boxes.len() != before.len() || !all_in_world(&boxes) {
-        return Ok(());
-    }
-    let start = Instant::now(rt)?;
-    let moved = list.moved(rt.alloc(), &boxes)?;
-    let list_time = start.elapsed(rt)?.as_nanos();
-    let start = Instant::now(rt)?;
-    list.refit(&boxes, &moved);
-    let mend_time = start.elapsed(rt)?.as_nanos();
-    println!(rt; "refit {side} {every} {} 0 true {list_time} {mend_time}", moved.len())?;
-    Ok(())
-}
-
 fn one_size(rt: &HostRuntime, side: u32) -> Result<(), Fail> {
     let tris = mesh(rt.alloc(), side)?;
     let boxes = boxes_of(rt.alloc(), &tris)?;
@@ -391,11 +346,6 @@ fn one_size(rt: &HostRuntime, side: u32) -> Result<(), Fail> {
         for round in 0..ROUNDS {
             let from = round.wrapping_mul(count);
             shot_round(rt, &t, &tris, &list, Round { from, count, side, cells })?;
-        }
-    }
-    for every in [1usize, 100, 10000] {
-        for _ in 0..5u32 {
-            refit_round(rt, &t, &boxes, side, every)?;
         }
     }
     Ok(())
@@ -431,9 +381,6 @@ for (kind, side, what), runs in rows.items():
     if kind == "make":
         print(f"{triangles} triangles, made in {second / 1e6:.2f} ms, {runs[0][0]} records "
               f"(the tree by its plain build {first / 1e6:.2f} ms)")
-    elif kind == "refit":
-        print(f"{triangles} triangles, every {what}th moved: {first / 1e6:.3f} ms to find them, "
-              f"{second / 1e6:.3f} ms to mend")
     else:
         count = runs[0][0]
         name = "boxes" if kind == "box" else "segments"

@@ -47,29 +47,19 @@ used_absent k text us e = replaced k ∙ ap put without_it
     replaced None = refl
     replaced (Some n) = refl
 
--- the use of an argument passes where that was not seen
-pub use_ok : (k : Option Name) (text : Text) (us : List Use)
-    → use_passes false (rule_at k) (text ∷ []) (rows us) ≡ not (seen k us)
-use_ok k text us = go k (seen k us) refl
+-- the use of an argument passes where that was not seen, and has no fault there
+pub use_once : (k : Option Name) (text : Text) (us : List Use)
+    → (use_passes false (rule_at k) (text ∷ []) (rows us) ≡ not (seen k us))
+    × (clear (use_fault false (rule_at k) (text ∷ []) (rows us)) ≡ not (seen k us))
+use_once k text us = go k (seen k us) refl
   where
     go : (j : Option Name) (is : Bool) → seen j us ≡ is
-        → use_passes false (rule_at j) (text ∷ []) (rows us) ≡ not (seen j us)
-    go None true e = rw e refl
-    go None false e = rw e refl
-    go (Some n) true e = rw e refl
-    go (Some n) false e = rw e refl
-
--- and has no fault there
-pub use_clear : (k : Option Name) (text : Text) (us : List Use)
-    → clear (use_fault false (rule_at k) (text ∷ []) (rows us)) ≡ not (seen k us)
-use_clear k text us = go k (seen k us) refl
-  where
-    go : (j : Option Name) (is : Bool) → seen j us ≡ is
-        → clear (use_fault false (rule_at j) (text ∷ []) (rows us)) ≡ not (seen j us)
-    go None true e = rw e refl
-    go None false e = rw e refl
-    go (Some n) true e = rw e refl
-    go (Some n) false e = rw e refl
+        → (use_passes false (rule_at j) (text ∷ []) (rows us) ≡ not (seen j us))
+        × (clear (use_fault false (rule_at j) (text ∷ []) (rows us)) ≡ not (seen j us))
+    go None true e = (rw e refl, rw e refl)
+    go None false e = (rw e refl, rw e refl)
+    go (Some n) true e = (rw e refl, rw e refl)
+    go (Some n) false e = (rw e refl, rw e refl)
 
 -- what uses end in with one more before the rest
 pub ends_more : (us : List Use) (u : Use) (rest : Option (List Use))

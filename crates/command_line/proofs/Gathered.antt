@@ -58,54 +58,28 @@ pub record IsGathered (us : List Use) (items : List Item) : Type 0 where
   pub builds : Pairs (ReadsAs build_of) (texts (Some name.Build) us) (filter_map build_named items)
   pub units : Pairs (ReadsAs (number_in 1 UNIT_MAX)) (texts (Some name.Unit) us) (filter_map unit_steps items)
 
+-- so they are where each is
+all_five : {us : List Use} {items : List Item} → Pairs NamesMesh (texts None us) (filter_map mesh_place items)
+    → Pairs (ReadsAs (number_in LEAST_GRID MOST_GRID)) (texts (Some name.Grid) us) (filter_map grid_squares items)
+    → Pairs (ReadsAs (number_in 1 MOST_WORKERS)) (texts (Some name.Workers) us) (filter_map worker_count items)
+    → Pairs (ReadsAs build_of) (texts (Some name.Build) us) (filter_map build_named items)
+    → Pairs (ReadsAs (number_in 1 UNIT_MAX)) (texts (Some name.Unit) us) (filter_map unit_steps items)
+    → IsGathered us items
+all_five m g w b u = record { meshes = m; grids = g; workers = w; builds = b; units = u }
+
 -- the items of uses are gathered
 pub gathered : (us : List Use) (items : List Item) → AreRead us items → IsGathered us items
 gathered [] [] h = record { meshes = tt; grids = tt; workers = tt; builds = tt; units = tt }
 gathered ((None, text) ∷ us) (item.Mesh place ∷ items) h =
-    let later = gathered us items h.1 in
-    record {
-      meshes = (h.0, later.meshes);
-      grids = later.grids;
-      workers = later.workers;
-      builds = later.builds;
-      units = later.units;
-    }
+    let l = gathered us items h.1 in all_five (h.0, l.meshes) l.grids l.workers l.builds l.units
 gathered ((Some name.Grid, text) ∷ us) (item.Grid squares ∷ items) h =
-    let later = gathered us items h.1 in
-    record {
-      meshes = later.meshes;
-      grids = (h.0, later.grids);
-      workers = later.workers;
-      builds = later.builds;
-      units = later.units;
-    }
+    let l = gathered us items h.1 in all_five l.meshes (h.0, l.grids) l.workers l.builds l.units
 gathered ((Some name.Workers, text) ∷ us) (item.Workers count ∷ items) h =
-    let later = gathered us items h.1 in
-    record {
-      meshes = later.meshes;
-      grids = later.grids;
-      workers = (h.0, later.workers);
-      builds = later.builds;
-      units = later.units;
-    }
+    let l = gathered us items h.1 in all_five l.meshes l.grids (h.0, l.workers) l.builds l.units
 gathered ((Some name.Build, text) ∷ us) (item.Build named ∷ items) h =
-    let later = gathered us items h.1 in
-    record {
-      meshes = later.meshes;
-      grids = later.grids;
-      workers = later.workers;
-      builds = (h.0, later.builds);
-      units = later.units;
-    }
+    let l = gathered us items h.1 in all_five l.meshes l.grids l.workers (h.0, l.builds) l.units
 gathered ((Some name.Unit, text) ∷ us) (item.Unit steps ∷ items) h =
-    let later = gathered us items h.1 in
-    record {
-      meshes = later.meshes;
-      grids = later.grids;
-      workers = later.workers;
-      builds = later.builds;
-      units = (h.0, later.units);
-    }
+    let l = gathered us items h.1 in all_five l.meshes l.grids l.workers l.builds (h.0, l.units)
 gathered [] (i ∷ items) h = absurd h
 gathered (u ∷ us) [] h = absurd h
 gathered (u ∷ us) (i ∷ items) h = absurd h.0

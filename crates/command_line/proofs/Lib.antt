@@ -13,6 +13,7 @@ pub mod OneRun
 pub mod OneParse
 pub mod Texts
 pub mod Gathered
+pub mod Unread
 pub mod SamePlan
 pub mod RowValues
 pub mod Dashes

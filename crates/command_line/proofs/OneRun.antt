@@ -14,7 +14,7 @@ use Rattle.command_line.specs.Parts.{Name, Name as name}
 use Rattle.command_line.specs.Uses.{key_text, Use, use_row, rows, seen, is_stray, long_cut, idle_cut, open_cut, cut, ends, found, has_dashes}
 use Rattle.command_line.specs.Values.{name_of}
 use Rattle.command_line.proofs.OneCommand.{rules_built, by_id}
-use Rattle.command_line.proofs.FoundRows.{ends_more, use_clear, use_ok, used_absent}
+use Rattle.command_line.proofs.FoundRows.{ends_more, use_once, used_absent}
 use Rattle.command_line.proofs.Turns.{Pending, Settles, Turns, dashes, front_turn, front_walked, holding, known_refused, mesh_turn, mesh_walked, second_turn, standing, stray_turn, taken_turn, taken_walked, unknown_turn, value_turn, value_walked}
 use Rattle.command_line.proofs.OneWalk.{Verdict, run, run_fails, run_step, verdict_of}
 
@@ -137,7 +137,8 @@ held_whole words undashed later k text us = go (seen k us) refl ∙ with_use (k,
     due = Some (key_text k, text ∷ [])
 
     settles : (is : Bool) → seen k us ≡ is → Settles us due (not is)
-    settles is e = (rw (by_id k) (use_ok k text us) ∙ ap not e, rw (by_id k) (use_clear k text us) ∙ ap not e)
+    settles is e =
+        (rw (by_id k) (use_once k text us).0 ∙ ap not e, rw (by_id k) (use_once k text us).1 ∙ ap not e)
 
     go : (is : Bool) → seen k us ≡ is → run (standing idle us due (place (us ++ (k, text) ∷ []))) words
         ≡ verdict_with (k, text) us words (seen k us)

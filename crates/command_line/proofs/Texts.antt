@@ -36,8 +36,12 @@ seen_texts k (u ∷ us) = go (same_key u.0 k) refl (seen_texts k us)
     go true e later = rw e refl
     go false e later = rw e later
 
--- the value of its row is its first text
-pub first_text : (k : Option Name) (us : List Use) → first_of (key_text k) (rows us) ≡ slice_get (texts k us) 0
+-- the value that a parse finds of an argument
+abbrev pub found_text : Option Name → List Use → Option Text
+found_text k us = first_of (key_text k) (rows us)
+
+-- it is its first text
+pub first_text : (k : Option Name) (us : List Use) → found_text k us ≡ slice_get (texts k us) 0
 first_text k [] = refl
 first_text k (u ∷ us) = go (same_key u.0 k) refl (first_text k us)
   where

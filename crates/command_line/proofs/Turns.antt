@@ -2,6 +2,7 @@
 use Rattle.std.proofs.Common.{◌≡◌, ◌∙◌, ap, ap₂, ℕ, ◌&&◌, not, Bool, true, false, List, [], ◌∷◌, ◌++◌, Option, None, Some, refl}
 use Rattle.std.specs.Prelude.{slice_get}
 use Rattle.std.specs.Str.{bytes_eq, chars}
+use Rattle.std.proofs.Math.Bool.{and-true}
 use Rattle.std.proofs.lemmas.Bool.{and_left, and_right}
 use Rattle.std.proofs.lemmas.Slice.Eq.{bytes_eq-Decides}
 use Rattle.clap.specs.Lexer.{long_of, short_of}
@@ -17,7 +18,7 @@ use Rattle.command_line.specs.Command.{one_command}
 use Rattle.command_line.specs.Uses.{key_text, Use, rows, seen, is_stray}
 use Rattle.command_line.specs.Values.{name_of}
 use Rattle.command_line.proofs.OneCommand.{rule_at, rule_named, rules_built, by_id, named_rule}
-use Rattle.command_line.proofs.FoundRows.{clear, use_clear, use_ok, used_absent}
+use Rattle.command_line.proofs.FoundRows.{clear, use_once, used_absent}
 
 -- what clap sees of the command
 abbrev pub top : Shape
@@ -69,11 +70,6 @@ or_clear (k ∷ ks) later e = refl
 clear_last : (ks : Kinds) → clear (or_else ks []) ≡ clear ks
 clear_last [] = refl
 clear_last (k ∷ ks) = refl
-
--- nor does a test that holds
-and_true : (b : Bool) → (b && true) ≡ b
-and_true true = refl
-and_true false = refl
 
 -- ---- how a word is read
 
@@ -180,9 +176,9 @@ module _ (waiting : Waiting) (us : List Use) (p : Pending) (position : ℕ) (wor
       × (clear (turn_fault top [] (standing waiting us p position) word)
       ≡ clear (long_fault rules_built false (Some (rule_at (Some n))) v (holding us p)))
   known_turn t None n l e =
-      let turn = turn_of (long_read t None (Some n) l e) in (turn.0 ∙ and_true _, ap clear turn.1 ∙ clear_last _)
+      let turn = turn_of (long_read t None (Some n) l e) in (turn.0 ∙ and-true _, ap clear turn.1 ∙ clear_last _)
   known_turn t (Some v) n l e =
-      let turn = turn_of (long_read t (Some v) (Some n) l e) in (turn.0 ∙ and_true _, ap clear turn.1 ∙ clear_last _)
+      let turn = turn_of (long_read t (Some v) (Some n) l e) in (turn.0 ∙ and-true _, ap clear turn.1 ∙ clear_last _)
 
   -- a name alone passes where what is pending does
   pub front_turn : (t : Text) (n : Name) (b : Bool) → long_of word ≡ Some (t, None) → name_of t ≡ Some n
@@ -204,8 +200,8 @@ module _ (waiting : Waiting) (us : List Use) (p : Pending) (position : ℕ) (wor
         → Settles us p true → Turns (standing waiting us p position) word (not (seen (Some n) to))
     value_turn t n v l e settles =
         let turn = known_turn t (Some v) n l e in (
-          turn.0 ∙ rw (settles.0, rows_are) (use_ok (Some n) v to),
-          turn.1 ∙ rw (no_kinds _ settles.1, rows_are) (use_clear (Some n) v to),
+          turn.0 ∙ rw (settles.0, rows_are) (use_once (Some n) v to).0,
+          turn.1 ∙ rw (no_kinds _ settles.1, rows_are) (use_once (Some n) v to).1,
         )
 
     -- and then it is found

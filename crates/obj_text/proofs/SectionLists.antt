@@ -3,7 +3,7 @@ use Rattle.std.proofs.Common.{◌≡◌, ℕ, ◌+◌, ◌-◌, ◌≤◌, List,
 use Rattle.std.specs.Prelude.{All, Option, None, Some, IfSome, slice_index_or}
 use Rattle.std.specs.Option.{option_map, option_or}
 use Rattle.std.proofs.lemmas.List.{map-append, take-append-drop}
-use Rattle.std.proofs.lemmas.List.Elements.{All-append, All-head, All-tail}
+use Rattle.std.proofs.lemmas.List.Elements.{All-append, All-head, All-tail, All-take, All-drop}
 use Rattle.text_words.specs.Joins.{JoinedLine, joined_lines_of}
 use Rattle.text_words.specs.Halves.{moved_by}
 use Rattle.obj_text.specs.Texts.{vertices_of}
@@ -87,7 +87,7 @@ ahead_of_first sections later first behind both e all a v n =
     (ahead_of_both (joined_lines_of first.text.now) (lines_in later) first.ahead behind both own.ahead a v n)
 
 -- a list cut in two has the vertices of both
-pub vertices_of_halves : (n : ℕ) (sections left right : List Section) → left ≡ take n sections → right ≡ drop n sections
+vertices_of_halves : (n : ℕ) (sections left right : List Section) → left ≡ take n sections → right ≡ drop n sections
     → vertices_of (lines_in sections) ≡ vertices_of (lines_in left) + vertices_of (lines_in right)
 vertices_of_halves n sections left right l r =
     ap (λ k. vertices_of (lines_in k)) (sym (take-append-drop n sections))
@@ -96,12 +96,29 @@ vertices_of_halves n sections left right l r =
     ∙ vertices_of-append (lines_in left) (lines_in right)
 
 -- and their lines
-pub lines_of_halves : (n : ℕ) (sections left right : List Section) → left ≡ take n sections → right ≡ drop n sections
+lines_of_halves : (n : ℕ) (sections left right : List Section) → left ≡ take n sections → right ≡ drop n sections
     → lines_in sections ≡ lines_in left ++ lines_in right
 lines_of_halves n sections left right l r =
     ap lines_in (sym (take-append-drop n sections))
     ∙ ap₂ (λ j k. lines_in (j ++ k)) (sym l) (sym r)
     ∙ lines_in-append left right
+
+-- what is known of a list of counted sections and its two halves
+pub record Halves (sections left right : List Section) : Type 0 where
+  pub vertices : vertices_of (lines_in sections) ≡ vertices_of (lines_in left) + vertices_of (lines_in right)
+  pub lines : lines_in sections ≡ lines_in left ++ lines_in right
+  pub first : All IsCounted left
+  pub second : All IsCounted right
+
+-- so it is wherever the list is cut
+pub halves : (n : ℕ) (sections : List Section) {left right : List Section} → left ≡ take n sections →
+    right ≡ drop n sections → All IsCounted sections → Halves sections left right
+halves n sections {left = left} {right = right} l r each = record {
+  vertices = vertices_of_halves n sections left right l r;
+  lines = lines_of_halves n sections left right l r;
+  first = subst (All IsCounted) (sym l) (All-take IsCounted n sections each);
+  second = subst (All IsCounted) (sym r) (All-drop IsCounted n sections each);
+}
 
 -- the sections of a text have its vertices
 pub vertices_of_sections : (sections all : List Section) (lines : List JoinedLine) → all ≡ sections

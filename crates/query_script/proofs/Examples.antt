@@ -15,23 +15,27 @@ corners
 unfolding steps_of
 corners = refl
 
--- leading zeros, blanks, comments
+-- leading zeros, and blanks round the words
 zeros : ask_of 1 (codes "\tnode 007 ") ≡ Ok (ask.NodeOf 7)
 zeros = refl
 
+-- a comment asks nothing
 comment : ask_of 1 (codes " #box") ≡ Ok ask.Nothing
 comment = refl
 
+-- nor does a blank line
 blank : ask_of 1 (codes " \t ") ≡ Ok ask.Nothing
 blank = refl
 
--- the order of the checks
+-- an unknown word is told first
 first_word : ask_of 1 (codes "frob a") ≡ Err UnknownWord
 first_word = refl
 
+-- then a wrong count
 count : ask_of 1 (codes "box a 0 0 0 0") ≡ Err WrongCount
 count = refl
 
+-- then the first faulty word from left to right
 from_left_to_right : ask_of 1 (codes "box 2147483648 a 0 0 0 0") ≡ Err OutOfRange
 unfolding steps_of
 from_left_to_right = refl
@@ -45,5 +49,6 @@ decimal_corners
 unfolding steps_of
 decimal_corners = refl
 
+-- a number of 25 digits is too long
 twenty_five_digits : ask_of 1 (codes "node 1234567890123456789012345") ≡ Err NumberTooLong
 twenty_five_digits = refl

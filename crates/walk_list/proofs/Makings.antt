@@ -31,10 +31,12 @@ module _ (leaves : List Leaf) (fit : Box3) (a s e : ℕ) (bounds : Bounds leaves
     (pushed : first ≡ before ++ blank ∷ [])
     (on_left : IsPart leaves a s first second) (on_right : IsPart leaves s e second third)
     (low : a < s) (high : s < e) where
+  -- the list is what stood, the node's own record, and the parts
   whole : third ≡ ((before ++ blank ∷ []) ++ on_left.part) ++ on_right.part
   whole = on_right.grown ∙ ap (λ xs. xs ++ on_right.part)
       (on_left.grown ∙ ap (λ xs. xs ++ on_left.part) pushed)
 
+  -- and so long
   pub long : length third ≡ length before + 1 + length on_left.part + length on_right.part
   long = omega (
     arith,
@@ -44,9 +46,11 @@ module _ (leaves : List Leaf) (fit : Box3) (a s e : ℕ) (bounds : Bounds leaves
     length-append before (blank ∷ []),
   )
 
+  -- there are fewer than two records a leaf
   pub few_below : length third - length before < 2 * (e - a)
   few_below = omega (arith, long, on_left.few, on_right.few)
 
+  -- the node's own record is one of them
   pub own_inside : length before < length third
   own_inside = omega (arith, long)
 

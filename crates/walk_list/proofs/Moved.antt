@@ -1,23 +1,24 @@
 -- What stands after leaves moved.
-use Rattle.std.proofs.Common.{◌≡◌, ℕ, ◌<◌, refl, sym, ap, ◌∙◌, arith, inl, inr, subst, List, [], ◌∷◌, ◌++◌, length, get_or, set, All, ◌⊎◌, ◌^◌}
+use Rattle.std.proofs.Common.{◌≡◌, ℕ, ◌-◌, ◌<◌, refl, sym, ap, ◌∙◌, arith, inl, inr, subst, List, [], ◌∷◌, ◌++◌, length, get_or, set, All, ◌⊎◌, ◌^◌}
 use Rattle.std.specs.Prelude.{Contains}
 use Rattle.std.proofs.lemmas.Bool.{cases_eq}
-use Rattle.std.proofs.lemmas.List.{get_or-set_same, get_or-set_other, length-set, ext_get_or, get_or-map, length-map}
-use Rattle.std.proofs.lemmas.List.Elements.{Contains-append_left, Contains-push, Contains-push_cases, at_from_Contains}
+use Rattle.std.proofs.lemmas.List.{get_or_default, get_or-set_same, get_or-set_other, length-set, ext_get_or, get_or-map, length-map}
+use Rattle.std.proofs.lemmas.List.Elements.{All-get_or, Contains-append_left, Contains-push, Contains-push_cases, at_from_Contains}
 use Rattle.fixed_box.specs.declared.shapes.Box3.{Box3}
 use Rattle.fixed_box.specs.Boxes as box
 use Rattle.fixed_box.specs.World.{BoxInWorld}
 use Rattle.morton_key.specs.Keys.{key_at, tri_at}
 use Rattle.morton_key.specs.declared.keys.Key.{Key}
 use Rattle.radix_tree.specs.Fit.{box_of_triangle}
+use Rattle.radix_tree.specs.Table.{no_box}
 use Rattle.traversal.proofs.Approaches.{read_in_world}
 use Rattle.walk_list.specs.declared.records.Leaf.{Leaf}
 use Rattle.walk_list.specs.declared.records.Record.{Record}
 use Rattle.walk_list.specs.Leaves.{leaf_of, leaves_of, leaf_at, no_leaf}
 use Rattle.walk_list.specs.Covering.{Bounds, Covers, CoversBy, run, fork}
 use Rattle.walk_list.specs.Lists.{Contents, IsOver}
-use Rattle.walk_list.specs.Moving.{AreOverBut, IsOverAsMany, IsFitTo}
-use Rattle.walk_list.specs.Stale.{BoundsBut, AreInWorld, HaveBoxes, Moves}
+use Rattle.walk_list.specs.Moving.{AreOverBut}
+use Rattle.walk_list.specs.Stale.{BoundsBut, AreInWorld, HaveBoxes, IsFitTo, Moves}
 
 -- no position moved
 pub moves_none : (boxes : List Box3) (leaves : List Leaf) → Moves boxes [] leaves leaves
@@ -28,19 +29,58 @@ moves_none boxes leaves = record {
   kept = λ p. inl refl;
 }
 
-module _ (boxes : List Box3) (seen : List ℕ) (before now : List Leaf) (q : ℕ) (x y : Leaf) (lt : q < length now)
-    (m : Moves boxes seen before now) (is : x ≡ leaf_at now q) (y_number : y.number ≡ x.number)
-    (y_fit : y.fit ≡ box_of_triangle boxes x.number) where
+-- a leaf that is read at a position: its number is that of a box, which is read as its triangle's
+pub record LeafRead (leaves : List Leaf) (boxes : List Box3) (p : ℕ) (x : Leaf) : Type 0 where
+  pub within : p < length leaves
+  pub is : x ≡ leaf_at leaves p
+  pub from_one : 0 < x.number
+  pub inside : x.number - 1 < length boxes
+  pub own : {b : Box3} → b ≡ get_or boxes (x.number - 1) b → b ≡ box_of_triangle boxes x.number
+
+-- so it is where each leaf's number is that of a box
+pub leaf_read : {leaves : List Leaf} {boxes : List Box3} {x : Leaf} (p : ℕ) (y : Leaf) → HaveBoxes leaves boxes →
+    p < length leaves → x ≡ get_or leaves p y → LeafRead leaves boxes p x
+unfolding leaf_at box_of_triangle
+leaf_read {leaves = leaves} {boxes = boxes} {x = x} p y have lt read =
+    let is : x ≡ leaf_at leaves p = read ∙ get_or_default leaves p y no_leaf lt in
+    let number : x.number ≡ (leaf_at leaves p).number = ap (λ (l : Leaf). l.number) is in
+    let inside : x.number - 1 < length boxes = omega (arith, number, have.from_one p lt, have.to_count p lt) in
+    record {
+      within = lt;
+      is = is;
+      from_one = omega (arith, number, have.from_one p lt);
+      inside = inside;
+      own = λ {b} e. e ∙ get_or_default boxes (x.number - 1) b no_box inside;
+    }
+
+-- and after some leaves moved, at the next position that is listed
+pub next_read : {boxes : List Box3} {seen : List ℕ} {before now : List Leaf} (moved : List ℕ) (i : ℕ) (y : Leaf) →
+    Moves boxes seen before now → HaveBoxes before boxes → All (λ p. p < length before) moved → i < length moved →
+    LeafRead now boxes (get_or moved i 0) (get_or now (get_or moved i 0) y)
+next_read {boxes = boxes} {before = before} {now = now} moved i y m have within lt =
+    let have_now : HaveBoxes now boxes = record {
+      from_one = λ p l. omega (arith, m.numbers p, have.from_one p (omega (arith, m.count, l)));
+      to_count = λ p l. omega (arith, m.numbers p, have.to_count p (omega (arith, m.count, l)));
+    } in
+    let here = All-get_or (λ p. p < length before) moved i 0 lt within in
+    leaf_read (get_or moved i 0) y have_now (omega (arith, here, m.count)) refl
+
+module _ {boxes : List Box3} {seen : List ℕ} {before now : List Leaf} {q : ℕ} {x : Leaf} (y : Leaf)
+    (m : Moves boxes seen before now) (r : LeafRead now boxes q x) (y_number : y.number ≡ x.number)
+    (y_fit : y.fit ≡ get_or boxes (x.number - 1) y.fit) where
+  -- the leaf that is written stands at its position
   here : (p : ℕ) → p ≡ q → leaf_at (set now q y) p ≡ y
   unfolding leaf_at
-  here p e = ap (λ i. get_or (set now q y) i no_leaf) e ∙ get_or-set_same now q y no_leaf lt
+  here p e = ap (λ i. get_or (set now q y) i no_leaf) e ∙ get_or-set_same now q y no_leaf r.within
 
+  -- and the others stand where they stood
   elsewhere : (p : ℕ) → (p ≡ q → ⊥) → leaf_at (set now q y) p ≡ leaf_at now p
   unfolding leaf_at
   elsewhere p ne = get_or-set_other now q p y no_leaf ne
 
+  -- it has the box of its triangle
   own_fit : IsFitTo boxes y
-  own_fit = y_fit ∙ ap (box_of_triangle boxes) (sym y_number)
+  own_fit = r.own y_fit ∙ ap (box_of_triangle boxes) (sym y_number)
 
   -- one more position moved
   pub moves_more : Moves boxes (seen ++ q ∷ []) before (set now q y)
@@ -49,7 +89,7 @@ module _ (boxes : List Box3) (seen : List ℕ) (before now : List Leaf) (q : ℕ
     numbers = λ p. elim (cases_eq p q) [
       | inl e ↦
           ap (λ (l : Leaf). l.number) (here p e)
-          ∙ (y_number ∙ (ap (λ (l : Leaf). l.number) (is ∙ ap (leaf_at now) (sym e)) ∙ m.numbers p))
+          ∙ (y_number ∙ (ap (λ (l : Leaf). l.number) (r.is ∙ ap (leaf_at now) (sym e)) ∙ m.numbers p))
       | inr ne ↦ ap (λ (l : Leaf). l.number) (elsewhere p ne) ∙ m.numbers p
     ];
     fits = λ p h. elim (cases_eq p q) [
@@ -95,10 +135,11 @@ module _ (boxes : List Box3) (moved : List ℕ) (before after : List Leaf) (m : 
       (stale right middle b on_right)
 
   module _ (but : AreOverBut before boxes moved) where
-    -- each leaf has the number of its key and its triangle's box
+    -- each leaf has the number of its key
     number_now : (p : ℕ) → p < length but.keys → (leaf_at after p).number ≡ tri_at but.keys p
     number_now p lt = m.numbers p ∙ but.numbers p lt
 
+    -- and that triangle's box
     fit_now : (p : ℕ) → p < length but.keys → (leaf_at after p).fit ≡ box_of_triangle boxes (tri_at but.keys p)
     fit_now p lt = elim (m.kept p) [
       | inr moved_here ↦ m.fits p moved_here ∙ ap (box_of_triangle boxes) (number_now p lt)
@@ -108,6 +149,7 @@ module _ (boxes : List Box3) (moved : List ℕ) (before after : List Leaf) (m : 
       ]
     ]
 
+    -- so it is the leaf of its key
     leaf_now : (p : ℕ) → p < length but.keys → leaf_at after p ≡ leaf_of boxes (key_at but.keys p)
     unfolding leaf_of tri_at
     leaf_now p lt = leaf_is (leaf_at after p) (box_of_triangle boxes (tri_at but.keys p)) (tri_at but.keys p)
@@ -151,31 +193,33 @@ have_boxes leaves boxes moved but = record {
       omega (arith, but.numbers p within, but.lawful.to_count p within, but.count);
 }
 
-module _ (f : Contents) (boxes : List Box3) (many : IsOverAsMany f boxes) where
+module _ (f : Contents) (before boxes : List Box3) (over : IsOver f before) (same : length boxes ≡ length before) where
   -- the leaf at a position is its key's, with the box of before
-  leaf_was : (p : ℕ) → p < length many.over.keys →
-      leaf_at f.leaves p ≡ leaf_of many.before (key_at many.over.keys p)
+  leaf_was : (p : ℕ) → p < length over.keys →
+      leaf_at f.leaves p ≡ leaf_of before (key_at over.keys p)
   unfolding leaf_at leaves_of key_at
   leaf_was p lt =
-      ap (λ ls. get_or ls p no_leaf) many.over.leaves
-      ∙ get_or-map (leaf_of many.before) many.over.keys p (record { code = 0; tri = 0 }) no_leaf lt
+      ap (λ ls. get_or ls p no_leaf) over.leaves
+      ∙ get_or-map (leaf_of before) over.keys p (record { code = 0; tri = 0 }) no_leaf lt
 
-  number_was : (p : ℕ) → p < length many.over.keys → (leaf_at f.leaves p).number ≡ tri_at many.over.keys p
+  -- so it has that key's number
+  number_was : (p : ℕ) → p < length over.keys → (leaf_at f.leaves p).number ≡ tri_at over.keys p
   unfolding leaf_of tri_at
   number_was p lt = ap (λ (l : Leaf). l.number) (leaf_was p lt)
 
-  count_was : length f.leaves ≡ length many.over.keys
+  -- there is one for each key
+  count_was : length f.leaves ≡ length over.keys
   unfolding leaves_of
-  count_was = ap length many.over.leaves ∙ length-map many.over.keys (leaf_of many.before)
+  count_was = ap length over.leaves ∙ length-map over.keys (leaf_of before)
 
   -- where each leaf has its box or is listed, the list is over the boxes but for those
   pub over_but : (moved : List ℕ) →
       ((p : ℕ) → p < length f.leaves → Contains moved p ⊎ IsFitTo boxes (leaf_at f.leaves p)) →
       AreOverBut f.leaves boxes moved
   over_but moved each = record {
-    keys = many.over.keys;
-    lawful = many.over.lawful;
-    count = many.count ∙ many.over.count;
+    keys = over.keys;
+    lawful = over.lawful;
+    count = same ∙ over.count;
     leaf_count = count_was;
     numbers = number_was;
     fits = λ p lt. elim (each p (omega (arith, lt, count_was))) [
@@ -184,19 +228,20 @@ module _ (f : Contents) (boxes : List Box3) (many : IsOverAsMany f boxes) where
     ];
   }
 
-  -- each leaf's number is that of a box, and a position fits 32 bits
-  pub as_many_have_boxes : HaveBoxes f.leaves boxes
-  as_many_have_boxes = record {
+  -- each leaf's number is that of a box
+  pub list_has_boxes : HaveBoxes f.leaves boxes
+  list_has_boxes = record {
     from_one = λ p lt.
-        let within : p < length many.over.keys = omega (arith, lt, count_was) in
-        omega (arith, number_was p within, many.over.lawful.from_one p within);
+        let within : p < length over.keys = omega (arith, lt, count_was) in
+        omega (arith, number_was p within, over.lawful.from_one p within);
     to_count = λ p lt.
-        let within : p < length many.over.keys = omega (arith, lt, count_was) in
-        omega (arith, number_was p within, many.over.lawful.to_count p within, many.count, many.over.count);
+        let within : p < length over.keys = omega (arith, lt, count_was) in
+        omega (arith, number_was p within, over.lawful.to_count p within, same, over.count);
   }
 
-  pub as_many_few : length f.leaves < 2 ^ 32
-  as_many_few = omega (arith, count_was, many.over.lawful.few)
+  -- and a position fits 32 bits
+  pub few_leaves : length f.leaves < 2 ^ 32
+  few_leaves = omega (arith, count_was, over.lawful.few)
 
 -- a list over boxes whose triangles stand where the keys' do is the list of the keys
 pub same_keys : (f g : Contents) (keys : List Key) (before boxes : List Box3) →

@@ -40,10 +40,12 @@ module _ (f : Contents) (tris : List Tri) (over : IsOver f (map tri_box tris)) w
       ap (λ ls. get_or ls p no_leaf) over.leaves
       ∙ get_or-map (leaf_of (map tri_box tris)) over.keys p (record { code = 0; tri = 0 }) no_leaf lt
 
+  -- so it has that key's number
   number_is : (p : ℕ) → p < length over.keys → (leaf_at f.leaves p).number ≡ tri_at over.keys p
   unfolding leaf_of tri_at
   number_is p lt = ap (λ (l : Leaf). l.number) (leaf_is p lt)
 
+  -- and that triangle's box
   fit_is : (p : ℕ) → p < length over.keys →
       (leaf_at f.leaves p).fit ≡ box_of_triangle (map tri_box tris) (tri_at over.keys p)
   unfolding leaf_of tri_at

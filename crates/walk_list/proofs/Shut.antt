@@ -34,12 +34,13 @@ part_of h = record { positive = h.positive; begun = h.begun; ended = h.ended }
 module _ (tris : List Tri) (p q : Point) (seen : ℕ → Type 0) (b : Box3) (whole : ℤ) (above : pos 0 <ℤ whole)
     (g : Passage) (is : IsPassageOf p q b whole g)
     (contains : (n : ℕ) → seen n → Contains b (tri_box (triangle_of tris n))) where
-  -- a hit lies behind the entry and before the exit
+  -- a hit lies behind the entry
   entered : (n : ℕ) (f : Frac) → seen n → IsHit p q (triangle_of tris n) f → (g.enter.at *ℤ f.den) ≤ℤ (f.num *ℤ whole)
   entered n f s h =
       let inside = hit_in_container p q (triangle_of tris n) f b h (contains n s) in
       ((is f.num f.den (part_of inside)).1 inside).begun
 
+  -- and it lies before the exit
   left : (n : ℕ) (f : Frac) → seen n → IsHit p q (triangle_of tris n) f → (f.num *ℤ whole) ≤ℤ (g.leave.at *ℤ f.den)
   left n f s h =
       let inside = hit_in_container p q (triangle_of tris n) f b h (contains n s) in

@@ -1,5 +1,5 @@
 -- A subtree's records within the list: its own record, and the subtrees of its two parts.
-use Rattle.std.proofs.Common.{◌≡◌, ℕ, ◌+◌, ◌<◌, ◌≢◌, sym, ap, ◌∙◌, arith, subst, List, [], ◌∷◌, ◌++◌, length, drop, get_or, append-nil, append_assoc}
+use Rattle.std.proofs.Common.{◌≡◌, ℕ, ◌+◌, ◌<◌, ◌≢◌, refl, sym, ap, ◌∙◌, arith, subst, List, [], ◌∷◌, ◌++◌, length, drop, get_or, append-nil, append_assoc}
 use Rattle.std.proofs.lemmas.List.{get_or_default, drop_more, drop-drop, length-drop}
 use Rattle.walk_list.specs.declared.records.Leaf.{Leaf}
 use Rattle.walk_list.specs.declared.records.Record.{Record}
@@ -21,7 +21,7 @@ first_left records i x xs e =
     (lt, head, tail)
 
 -- a record that is read is that of its number
-pub read_record : (records read : List Record) (i : ℕ) (x : Record) → read ≡ records → i < length records →
+read_record : (records read : List Record) (i : ℕ) (x : Record) → read ≡ records → i < length records →
     x ≡ get_or read i x → x ≡ record_at records i
 unfolding record_at
 read_record records read i x same lt is =
@@ -57,20 +57,22 @@ own_bounds leaves records i a s = own s.part s.front s.covers
         subst (λ (z : Record). Bounds leaves z.fit a (record_at records i).end) (sym at.1)
         (covers_bounds (Bounds leaves) x xs a (record_at records i).end c)
 
--- the subtrees of its two parts
-pub record Halves (leaves : List Leaf) (records : List Record) (i a : ℕ) : Type 0 where
+-- the subtrees of its two parts; the left one's own record is the next
+pub record Halves (leaves : List Leaf) (records : List Record) (i a : ℕ) (next : Record) : Type 0 where
+  pub next_is : next ≡ record_at records (i + 1)
   pub left_in : i + 1 < length records
   pub left : IsSubtreeAt leaves records (i + 1) a
-  pub right_in : i + 1 + (record_at records (i + 1)).escape < length records
-  pub right : IsSubtreeAt leaves records (i + 1 + (record_at records (i + 1)).escape) (record_at records (i + 1)).end
-  pub right_end : (record_at records (i + 1 + (record_at records (i + 1)).escape)).end ≡ (record_at records i).end
+  pub right_in : i + 1 + next.escape < length records
+  pub right : IsSubtreeAt leaves records (i + 1 + next.escape) next.end
+  pub right_end : (record_at records (i + 1 + next.escape)).end ≡ (record_at records i).end
 
-pub halves : (leaves : List Leaf) (records : List Record) (i a : ℕ) → IsSubtreeAt leaves records i a →
-    (record_at records i).escape ≢ 1 → Halves leaves records i a
-halves leaves records i a s inner = own s.part s.front s.covers
+-- a record that is no run has them
+pub halves : {leaves : List Leaf} {records : List Record} {i a : ℕ} → IsSubtreeAt leaves records i a →
+    (record_at records i).escape ≢ 1 → Halves leaves records i a (record_at records (i + 1))
+halves {leaves = leaves} {records = records} {i = i} {a = a} s inner = own s.part s.front s.covers
   where
     own : (part : List Record) → drop i records ≡ part ++ s.behind → Covers leaves part a (record_at records i).end →
-        Halves leaves records i a
+        Halves leaves records i a (record_at records (i + 1))
     own [] e c = absurd (omega (arith, covers_some (Bounds leaves) [] a _ c))
     own (x ∷ xs) e c =
         let at = first_left records i x (xs ++ s.behind) e in
@@ -100,6 +102,7 @@ halves leaves records i a s inner = own s.part s.front s.covers
         ∙ covers_end (Bounds leaves) p.r p.rs' p.l.end (record_at records i).end p.on_right in
         let order = covers_order leaves (p.r ∷ p.rs') p.l.end (record_at records i).end p.on_right in
         record {
+          next_is = refl;
           left_in = left_at.0;
           left = record {
             part = p.l ∷ p.ls;
@@ -119,3 +122,11 @@ halves leaves records i a s inner = own s.part s.front s.covers
           };
           right_end = r_end;
         }
+
+-- and so has one whose next record was read
+pub halves_read : {leaves : List Leaf} {records read : List Record} {i a : ℕ} {next : Record} →
+    IsSubtreeAt leaves records i a → (record_at records i).escape ≢ 1 → read ≡ records →
+    next ≡ get_or read (i + 1) next → Halves leaves records i a next
+halves_read {leaves = leaves} {records = records} {read = read} {i = i} {a = a} {next = next} s inner same is =
+    let h = halves s inner in
+    subst (Halves leaves records i a) (sym (read_record records read (i + 1) next same h.left_in is)) h

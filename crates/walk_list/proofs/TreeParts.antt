@@ -58,33 +58,42 @@ pub record AtNode (t : Contents) (leaves : List Leaf) (child : Child) (k : ℕ) 
   pub is : child ≡ Inner k
   pub inside : k < length t.nodes
 
-pub at_node : (t : Contents) (leaves : List Leaf) (child : Child) (k : ℕ) → IsTable t → HoldsLeaves t leaves →
+-- so it does at a child that is one
+pub at_node : {t : Contents} {leaves : List Leaf} {child : Child} {k : ℕ} → IsTable t → HoldsLeaves t leaves →
     IsChild t child → child ≡ Inner k → AtNode t leaves child k
-at_node t leaves child k table holds stands is =
+at_node {t = t} table holds stands is =
     record { table = table; holds = holds; is = is; inside = subst (IsChild t) is stands }
 
 module _ {t : Contents} {leaves : List Leaf} {child : Child} {k : ℕ} (here : AtNode t leaves child k) where
+  -- that node
   abbrev node : Node
   node = node_at t.nodes k
 
+  -- its left part is not empty
   pub low : node.first ≤ node.split
   low = low_at t here.table k here.inside
 
+  -- nor its right one
   pub high : node.split < node.last
   high = high_at t here.table k here.inside
 
+  -- its last leaf is there
   pub within : node.last < length t.keys
   within = last_at t here.table k here.inside
 
+  -- what has the range of its left part is a child
   pub left_is_child : (l : Child) → HasRange t.keys l node.first node.split → IsChild t l
   left_is_child l d = child_from_range t here.table l _ _ (omega (arith, high, within)) d
 
+  -- and spans fewer leaves
   pub left_falls : (l : Child) → HasRange t.keys l node.first node.split → span_of t l < span_of t child
   left_falls l d = omega (arith, low, high, ap (span_of t) here.is, span_from_range t here.table l _ _ d)
 
+  -- so is what has the range of its right part
   pub right_is_child : (r : Child) → HasRange t.keys r (node.split + 1) node.last → IsChild t r
   right_is_child r d = child_from_range t here.table r _ _ within d
 
+  -- which spans fewer too
   pub right_falls : (r : Child) → HasRange t.keys r (node.split + 1) node.last → span_of t r < span_of t child
   right_falls r d = omega (arith, low, high, ap (span_of t) here.is, span_from_range t here.table r _ _ d)
 
@@ -98,9 +107,11 @@ module _ {t : Contents} {leaves : List Leaf} {child : Child} {k : ℕ} (here : A
 
   -- of the node that is read
   module _ (x : Node) (e : x ≡ node_at t.nodes k) where
+    -- its range begins before it ends
     pub read_order : x.first ≤ x.last
     read_order = omega (arith, ap (λ (y : Node). y.first) e, ap (λ (y : Node). y.last) e, low, high)
 
+    -- and ends at a number of 32 bits
     pub read_small : x.last + 1 < 2 ^ 32
     read_small = omega (arith, ap (λ (y : Node). y.last) e, within, here.table.lawful.few)
 
@@ -122,17 +133,21 @@ module _ {t : Contents} {leaves : List Leaf} {child : Child} {k : ℕ} (here : A
         (before first second third : List Record) (pushed : first ≡ before ++ blank ∷ [])
         (on_left : (a b : ℕ) → HasRange t.keys l a b → IsPart leaves a (b + 1) first second)
         (on_right : (a b : ℕ) → HasRange t.keys r a b → IsPart leaves a (b + 1) second third) where
+      -- the left part was listed
       part_l : IsPart leaves node.first (node.split + 1) first second
       part_l = on_left node.first node.split range_l
 
+      -- and the right one
       part_r : IsPart leaves (node.split + 1) (node.last + 1) second third
       part_r = on_right (node.split + 1) node.last range_r
 
+      -- the node's own record is in the list
       pub own_within : length before < length third
       own_within = own_inside leaves node.fit node.first (node.split + 1) (node.last + 1)
           (here.holds.each k here.inside) blank before first second third pushed part_l part_r
           (omega (arith, low)) (omega (arith, high))
 
+      -- its escape fits 32 bits
       pub escape_small : length third - length before < 2 ^ 32
       escape_small = omega (
         arith,
@@ -143,6 +158,7 @@ module _ {t : Contents} {leaves : List Leaf} {child : Child} {k : ℕ} (here : A
         here.table.lawful.few,
       )
 
+      -- and with it both parts are one for each range of the child
       pub fork_for_child : (own escape : ℕ) → own ≡ length before → escape ≡ length third - own →
           (a b : ℕ) → HasRange t.keys child a b →
           IsPart leaves a (b + 1) before (set third own (record { fit = x.fit; escape = escape; end = x.last + 1 }))

@@ -8,6 +8,7 @@ use Rattle.fixed_box.specs.Extent.{tri_box}
 use Rattle.segment_hit.specs.Lines.{IsPassageOf}
 use Rattle.traversal.specs.Nearest.{triangle_of}
 use Rattle.walk_list.specs.declared.records.Leaf.{Leaf}
+use Rattle.walk_list.specs.declared.records.Record.{Record}
 use Rattle.walk_list.specs.declared.visits.Visit.{Visit}
 use Rattle.walk_list.specs.Lists.{Contents}
 use Rattle.walk_list.specs.Leaves.{leaf_at}
@@ -28,13 +29,12 @@ visit_contains f tris i a subtree scene n (k, low, high, number) =
     subst (λ m. Contains (record_at f.records i).fit (tri_box (triangle_of tris m))) number
     (subst (Contains (record_at f.records i).fit) leaf.fit (own.each k low high))
 
-module _ (f : Contents) (p q : Point) (whole : ℤ) (v a b : Visit) (h : Halves f.leaves f.records v.at v.position)
-    (a_at : a.at ≡ v.at + 1) (a_first : a.position ≡ v.position)
-    (b_at : b.at ≡ v.at + 1 + (record_at f.records (v.at + 1)).escape)
-    (b_first : b.position ≡ (record_at f.records (v.at + 1)).end)
+module _ (f : Contents) (p q : Point) (whole : ℤ) (v a b : Visit) {next : Record}
+    (h : Halves f.leaves f.records v.at v.position next) (a_at : a.at ≡ v.at + 1) (a_first : a.position ≡ v.position)
+    (b_at : b.at ≡ v.at + 1 + next.escape) (b_first : b.position ≡ next.end)
     (a_way : IsPassageOf p q (record_at f.records (v.at + 1)).fit whole a.way)
-    (b_way : IsPassageOf p q (record_at f.records (v.at + 1 + (record_at f.records (v.at + 1)).escape)).fit whole
-    b.way) where
+    (b_way : IsPassageOf p q (record_at f.records (v.at + 1 + next.escape)).fit whole b.way) where
+  -- the visit to the left part
   visit_a : IsVisit f p q whole a
   visit_a = record {
     within = omega (arith, a_at, h.left_in);
@@ -43,21 +43,22 @@ module _ (f : Contents) (p q : Point) (whole : ℤ) (v a b : Visit) (h : Halves 
     way = subst (λ i. IsPassageOf p q (record_at f.records i).fit whole a.way) (sym a_at) a_way;
   }
 
+  -- the visit to the right one
   visit_b : IsVisit f p q whole b
   visit_b = record {
     within = omega (arith, b_at, h.right_in);
     subtree = subst (λ i. IsSubtreeAt f.leaves f.records i b.position) (sym b_at)
-        (subst (λ z. IsSubtreeAt f.leaves f.records (v.at + 1 + (record_at f.records (v.at + 1)).escape) z)
-        (sym b_first) h.right);
+        (subst (λ z. IsSubtreeAt f.leaves f.records (v.at + 1 + next.escape) z) (sym b_first) h.right);
     way = subst (λ i. IsPassageOf p q (record_at f.records i).fit whole b.way) (sym b_at) b_way;
   }
 
+  -- each leaf stands in one of them
   either : (n : ℕ) → LeavesOf f v n → LeavesOf f a n ⊎ LeavesOf f b n
-  either n (k, low, high, number) = elim (cases_lt k (record_at f.records (v.at + 1)).end) [
+  either n (k, low, high, number) = elim (cases_lt k next.end) [
     | inl before ↦ inl (
       k,
       omega (arith, a_first),
-      subst (λ i. k < (record_at f.records i).end) (sym a_at) before,
+      subst (λ i. k < (record_at f.records i).end) (sym a_at) (subst (λ (r : Record). k < r.end) h.next_is before),
       number,
     )
     | inr behind ↦ inr (
@@ -68,6 +69,7 @@ module _ (f : Contents) (p q : Point) (whole : ℤ) (v a b : Visit) (h : Halves 
     )
   ]
 
+  -- so the two visits are its parts, the left one first
   pub in_turn : AreParts f p q whole v a b
   in_turn = record {
     first = visit_a;
@@ -77,6 +79,7 @@ module _ (f : Contents) (p q : Point) (whole : ℤ) (v a b : Visit) (h : Halves 
     all = either;
   }
 
+  -- or the right one
   pub in_other_turn : AreParts f p q whole v b a
   in_other_turn = record {
     first = visit_b;

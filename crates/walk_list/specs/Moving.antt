@@ -6,7 +6,6 @@ use Rattle.morton_key.specs.Keys.{IsLawful, tri_at}
 use Rattle.radix_tree.specs.Fit.{box_of_triangle}
 use Rattle.walk_list.specs.declared.records.Leaf.{Leaf}
 use Rattle.walk_list.specs.Leaves.{leaf_at}
-use Rattle.walk_list.specs.Lists.{Contents, IsOver}
 
 -- the leaves have the numbers of lawful keys, one for each of the boxes, and each has its triangle's box or stands at a
 -- moved position
@@ -18,13 +17,3 @@ pub record AreOverBut (leaves : List Leaf) (boxes : List Box3) (moved : List ℕ
   pub numbers : (p : ℕ) → p < length keys → (leaf_at leaves p).number ≡ tri_at keys p
   pub fits : (p : ℕ) → p < length keys →
       Contains moved p ⊎ ((leaf_at leaves p).fit ≡ box_of_triangle boxes (tri_at keys p))
-
--- the list is over as many boxes as these: those of its triangles before they moved
-pub record IsOverAsMany (f : Contents) (boxes : List Box3) : Type 0 where
-  pub before : List Box3
-  pub over : IsOver f before
-  pub count : length boxes ≡ length before
-
--- the leaf has the box of its number
-abbrev pub IsFitTo : List Box3 → Leaf → Type 0
-IsFitTo boxes l = l.fit ≡ box_of_triangle boxes l.number

@@ -3,11 +3,15 @@
 use Rattle.std.specs.Prelude.{ℕ, ◌≡◌, ◌<◌, ◌≤◌, ◌⊎◌, List, length, slice_index, Contains}
 use Rattle.fixed_box.specs.declared.shapes.Box3.{Box3}
 use Rattle.fixed_box.specs.World.{BoxInWorld}
+use Rattle.radix_tree.specs.Fit.{box_of_triangle}
 use Rattle.walk_list.specs.declared.records.Leaf.{Leaf}
 use Rattle.walk_list.specs.Leaves.{leaf_at}
 use Rattle.walk_list.specs.Covering.{Bounds}
-use Rattle.walk_list.specs.Moving.{IsFitTo}
 use Rattle.refit.specs.Listing.{ListsBut}
+
+-- the leaf has the box of its number
+abbrev pub IsFitTo : List Box3 → Leaf → Type 0
+IsFitTo boxes l = l.fit ≡ box_of_triangle boxes l.number
 
 -- one of the moved positions is from a up to b, b left out
 abbrev pub IsMovedBetween : List ℕ → ℕ → ℕ → Type 0

@@ -1,12 +1,22 @@
 -- A visit of a walk to a record, and to the two parts below it. No public clause cites this module.
-use Rattle.std.specs.Prelude.{ℕ, ◌<◌, ◌⊎◌, ℤ, length}
+use Rattle.std.specs.Prelude.{ℕ, ◌<◌, ◌⊎◌, ℤ, List, length}
 use Rattle.fixed_box.specs.declared.shapes.Point.{Point}
-use Rattle.segment_hit.specs.Lines.{IsPassageOf}
+use Rattle.fixed_box.specs.declared.shapes.Tri.{Tri}
+use Rattle.fixed_box.specs.World.{InWorld}
+use Rattle.segment_hit.specs.declared.line.Line.{Line}
+use Rattle.segment_hit.specs.Lines.{IsLineOf, IsPassageOf}
 use Rattle.walk_list.specs.declared.visits.Visit.{Visit}
 use Rattle.walk_list.specs.Lists.{Contents}
 use Rattle.walk_list.specs.Parts.{IsSubtreeAt}
 use Rattle.walk_list.specs.Records.{record_at}
-use Rattle.walk_list.specs.Reaches.{StandsFrom}
+use Rattle.walk_list.specs.Reaches.{IsScene, StandsFrom}
+
+-- a line is the segment's, its ends and the triangles lie in the world, and the leaves are some of these
+pub record IsAim (f : Contents) (tris : List Tri) (p q : Point) (l : Line) : Type 0 where
+  pub line : IsLineOf p q l
+  pub scene : IsScene f.leaves tris
+  pub begins : InWorld p
+  pub ends : InWorld q
 
 -- the walk stands at a subtree's record, and the segment goes through its box as the visit says
 pub record IsVisit (f : Contents) (p q : Point) (whole : ℤ) (v : Visit) : Type 0 where

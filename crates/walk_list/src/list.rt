@@ -1,19 +1,17 @@
 //! A walk list: its records and its leaves, which agree as long as it stands.
 
-ghost use Rattle.std.specs.Prelude.{◌≡◌, ◌<◌, ℕ, All, AllPairs, IfOk, length};
+ghost use Rattle.std.specs.Prelude.{◌≡◌, ◌<◌, ℕ, All, length};
 ghost use Rattle.std.specs.List.Sorted.{IsNonDecreasing};
 ghost use Rattle.fixed_box.specs.World.{BoxInWorld};
 ghost use Rattle.walk_list.specs.Covering.{CoversAll};
 ghost use Rattle.walk_list.specs.Leaves.{leaf_at};
 ghost use Rattle.walk_list.specs.Lists.{IsOver};
-ghost use Rattle.walk_list.specs.Moving.{AreOverBut, IsFitTo, IsOverAsMany};
+ghost use Rattle.walk_list.specs.Moving.{AreOverBut};
 
 use crate::mending::mend;
-use crate::moving::{list_moved, move_leaves};
+use crate::moving::move_leaves;
 use crate::{Leaf, Record};
 use fixed_box::Box3;
-use outside::Memory;
-use std::alloc::Global;
 use std::marker::Model;
 
 /// The records of a tree in depth-first order, and its leaves by position. Contracts see it as these two lists.
@@ -60,25 +58,6 @@ impl WalkList {
         ensures { result.now ≡ self.now.leaves }
     {
         self.leaves.as_slice()
-    }
-
-    /// The positions of the triangles that moved, rising, each once: those whose box in the list is not that of `boxes`,
-    /// where `boxes[n - 1]` is the box of triangle `n`. It is one pass over the leaves, and takes memory for the answer
-    /// alone.
-    pub fn moved(&self, alloc: Global, boxes: &[Box3]) -> Result<Vec<u32>, Memory>
-        requires { IsOverAsMany self.now boxes.now }
-        ensures rising { IfOk result (λ moved. IsNonDecreasing moved.items) }
-        ensures once { IfOk result (λ moved. AllPairs (λ p q. p < q) moved.items) }
-        ensures within { IfOk result (λ moved. All (λ p. p < length self.now.leaves) moved.items) }
-        ensures all { IfOk result (λ moved. AreOverBut self.now.leaves boxes.now moved.items) }
-        ensures alone { IfOk result (λ moved.
-            All (λ p. IsFitTo boxes.now (leaf_at self.now.leaves p) → ⊥) moved.items) }
-    {
-        let mut moved = Vec::new(alloc);
-        let Ok(_) = list_moved(self.leaves(), boxes, &mut moved) else {
-            return Err(Memory);
-        };
-        Ok(moved)
     }
 
     /// Mends the list after triangles moved, so that it is over `boxes`: `boxes[n - 1]` is the box of triangle `n`.

@@ -13,10 +13,10 @@ ghost use Rattle.walk_list.specs.Leaves.{leaf_at};
 ghost use Rattle.segment_hit.specs.Lines.{IsLineOf, IsPassageOf};
 ghost use Rattle.walk_list.specs.Parts.{IsSubtreeAt};
 ghost use Rattle.walk_list.specs.Lists.{IsOver};
-ghost use Rattle.walk_list.specs.Reaches.{IsLimit, IsScene, StandsFrom};
+ghost use Rattle.walk_list.specs.Reaches.{IsLimit, StandsFrom};
 ghost use Rattle.walk_list.specs.Records.{record_at};
 ghost use Rattle.fixed_box.specs.declared.shapes.Point.{Point};
-ghost use Rattle.walk_list.specs.Visits.{IsVisit, LeavesOf, AreParts};
+ghost use Rattle.walk_list.specs.Visits.{IsAim, IsVisit, LeavesOf, AreParts};
 
 use crate::best::Best;
 use crate::reaching::{is_shut, renewed};
@@ -71,10 +71,7 @@ fn look_leaf<S: Triangles>(
     position: usize,
     best: Best,
 ) -> Best
-    requires line { IsLineOf p.now q.now l.now }
-    requires scene { IsScene f.now.leaves (S.list tris.now) }
-    requires p { InWorld p.now }
-    requires q { InWorld q.now }
+    requires aim { IsAim f.now (S.list tris.now) p.now q.now l.now }
     requires within { position < length f.now.leaves }
     requires limit { IsLimit l.now.whole best.hit best.most.at }
     ensures nears { Nears (S.list tris.now) p.now q.now (λ n. n ≡ (leaf_at f.now.leaves position).number) best.hit
@@ -100,10 +97,7 @@ fn look_run<S: Triangles>(
     end: usize,
     best: Best,
 ) -> Best
-    requires line { IsLineOf p.now q.now l.now }
-    requires scene { IsScene f.now.leaves (S.list tris.now) }
-    requires p { InWorld p.now }
-    requires q { InWorld q.now }
+    requires aim { IsAim f.now (S.list tris.now) p.now q.now l.now }
     requires order { first ≤ end }
     requires within { end ≤ length f.now.leaves }
     requires limit { IsLimit l.now.whole best.hit best.most.at }
@@ -165,10 +159,7 @@ fn look_below<S: Triangles>(
     v: Visit,
     best: Best,
 ) -> Best
-    requires line { IsLineOf p.now q.now l.now }
-    requires scene { IsScene f.now.leaves (S.list tris.now) }
-    requires p { InWorld p.now }
-    requires q { InWorld q.now }
+    requires aim { IsAim f.now (S.list tris.now) p.now q.now l.now }
     requires visit { IsVisit f.now p.now q.now l.now.whole v }
     requires limit { IsLimit l.now.whole best.hit best.most.at }
     ensures nears { Nears (S.list tris.now) p.now q.now (LeavesOf f.now v) best.hit result.hit }
@@ -195,10 +186,7 @@ fn look_all<S: Triangles>(
     q: &Point,
     best: Best,
 ) -> Best
-    requires line { IsLineOf p.now q.now l.now }
-    requires scene { IsScene f.now.leaves (S.list tris.now) }
-    requires p { InWorld p.now }
-    requires q { InWorld q.now }
+    requires aim { IsAim f.now (S.list tris.now) p.now q.now l.now }
     requires limit { IsLimit l.now.whole best.hit best.most.at }
     ensures nears { Nears (S.list tris.now) p.now q.now (StandsFrom f.now.leaves 0 (length f.now.leaves)) best.hit
         result.hit }

@@ -1,11 +1,14 @@
 //! A list that is mended after moves, beside one that is made anew.
 
-ghost use Rattle.std.specs.Prelude.{◌≡◌, length};
+ghost use Rattle.std.specs.Prelude.{◌≡◌, ◌↔◌, ◌<◌, ◌^◌, [], All, IfOk, IsTrue, OnOk, length};
+ghost use Rattle.std.specs.List.Sorted.{IsNonDecreasing};
 ghost use Rattle.walk_list.specs.Lists.{IsOver};
+ghost use Rattle.walk_list.specs.Moving.{AreOverBut};
+ghost use Rattle.walk_list.specs.Stale.{HaveBoxes, ListsMoved};
 
 use crate::tests::{all_in_world, at, crowd, list_of, tree_of};
-use crate::{WalkList, overlaps};
-use fixed_box::Box3;
+use crate::{Leaf, WalkList, overlaps};
+use fixed_box::{Box3, contains};
 use std::alloc::{AllocError, Global};
 use std::process::Abort;
 use std::rt::HostRuntime;
@@ -45,6 +48,47 @@ fn some_away(
     Ok(moved)
 }
 
+/// Whether the leaf has that box: two boxes that contain each other are one.
+fn has_box(leaf: &Leaf, b: &Box3) -> bool
+    ensures { IsTrue result ↔ (leaf.now.fit ≡ b.now) }
+{
+    contains(&leaf.fit, b) && contains(b, &leaf.fit)
+}
+
+/// Lists the positions of the leaves that have not the boxes of their triangles, rising.
+fn list_moved(leaves: &[Leaf], boxes: &[Box3], moved: &mut Vec<u32>) -> Result<(), AllocError>
+    requires boxes { HaveBoxes leaves.now boxes.now }
+    requires few { length leaves.now < 2 ^ 32 }
+    requires empty { moved.old.items ≡ [] }
+    ensures { OnOk result (ListsMoved leaves.now boxes.now (length leaves.now) moved.new.items) }
+{
+    for position in 0..leaves.len() {
+        let leaf = &leaves[position];
+        if !has_box(leaf, &boxes[leaf.number as usize - 1]) {
+            moved.push(position as u32)?;
+        }
+    }
+    Ok(())
+}
+
+/// The positions of the triangles whose boxes changed, rising.
+fn moved_of(
+    alloc: Global,
+    list: &WalkList,
+    before: &[Box3],
+    boxes: &[Box3],
+) -> Result<Vec<u32>, AllocError>
+    requires over { IsOver list.now before.now }
+    requires count { length boxes.now ≡ length before.now }
+    ensures rising { IfOk result (λ moved. IsNonDecreasing moved.items) }
+    ensures within { IfOk result (λ moved. All (λ p. p < length list.now.leaves) moved.items) }
+    ensures over { IfOk result (λ moved. AreOverBut list.now.leaves boxes.now moved.items) }
+{
+    let mut moved = Vec::new(alloc);
+    list_moved(list.leaves(), boxes, &mut moved)?;
+    Ok(moved)
+}
+
 /// Mends the list after the boxes changed, and answers how many moved.
 fn mended(
     rt: &impl Abort,
@@ -57,7 +101,7 @@ fn mended(
 {
     assert_eq!(rt; boxes.len(), before.len());
     assert!(rt; all_in_world(boxes));
-    let moved = list.moved(alloc, boxes)?;
+    let moved = moved_of(alloc, list, before, boxes)?;
     list.refit(boxes, &moved);
     Ok(moved.len())
 }
@@ -99,10 +143,10 @@ fn a_mended_list_is_as_tight_as_before(rt: HostRuntime) -> Result<(), Fail> {
     assert_eq!(rt; boxes.len(), before.len());
     assert!(rt; all_in_world(&boxes));
     assert!(rt; all_in_world(&before));
-    let moved = list.moved(rt.alloc(), &boxes)?;
+    let moved = moved_of(rt.alloc(), &list, &before, &boxes)?;
     list.refit(&boxes, &moved);
     assert_ne!(rt; list.records(), first.records());
-    let back = list.moved(rt.alloc(), &before)?;
+    let back = moved_of(rt.alloc(), &list, &boxes, &before)?;
     assert_eq!(rt; back, moved);
     list.refit(&before, &back);
     assert_eq!(rt; list.records(), first.records());

@@ -3,6 +3,7 @@ use Rattle.obj_text.specs.declared.sections.Section.{Section}
 use Rattle.obj_text.proofs.SectionLists.{first_and_later, later_counted, later_few, ahead_of_first}
 use Rattle.obj_text.proofs.sections.+ahead_of_all.Goals as goal
 
+-- the section that stands where no section is
 no_section : Section
 no_section = record { text = record { ref_ptr = (0, 0); now = [] }; ahead = record { vertices = 0; name = None } }
 

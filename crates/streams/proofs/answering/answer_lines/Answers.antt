@@ -80,29 +80,23 @@ pub returns-then-limit-taken-clause-text : goal.returns-then-limit-taken-clause-
 returns-then-limit-taken-clause-text g c =
     let s = c.loop-count.session in
     let t = c.feed.new.self in
-    let did = c.in_ok-feed.ensures in
-    let behind = drop c.min-most.result c.loop-count.piece in
-    let some : c.min-within.result ≤ c.in-Ok.count = grind (arith, common_steps) in
-    let full : c.loop-count.taken + c.min-within.result ≡ c.args.limit = grind (arith, common_steps) in
-    let read = fed_of c.read.new.buf behind c.in-Ok.count c.min-within.result some c.in-Ok.ensures.bound.0 in
+    let fed = c.min-within.result in
+    let part = fed_of c.read.new.buf (drop c.min-most.result c.loop-count.piece) c.in-Ok.count fed in
     (cut_at_limit g.A.Answerer.text g.A.Answerer.after c.args.answerer _ _ _ _ _ _ s.answerer t.answerer c.args.limit
-    c.loop-count.taken s.number t.number s.line.items t.line.items t.one_line full c.if-limit-taken.true read
-    c.loop-count.invariant.gave c.in-Ok.ensures.bytes.0
-    did.owes did.state).text_is
+    c.loop-count.taken s.number t.number s.line.items t.line.items {fed = fed} t.one_line (grind (arith, common_steps))
+    c.if-limit-taken.true (part (grind (arith, common_steps)) c.in-Ok.ensures.bound.0) c.loop-count.invariant.gave
+    c.in-Ok.ensures.bytes.0 c.in_ok-feed.ensures.owes c.in_ok-feed.ensures.state).text_is
 
 pub returns-then-limit-taken-clause-state : goal.returns-then-limit-taken-clause-state
 returns-then-limit-taken-clause-state g c =
     let s = c.loop-count.session in
     let t = c.feed.new.self in
-    let did = c.in_ok-feed.ensures in
-    let behind = drop c.min-most.result c.loop-count.piece in
-    let some : c.min-within.result ≤ c.in-Ok.count = grind (arith, common_steps) in
-    let full : c.loop-count.taken + c.min-within.result ≡ c.args.limit = grind (arith, common_steps) in
-    let read = fed_of c.read.new.buf behind c.in-Ok.count c.min-within.result some c.in-Ok.ensures.bound.0 in
+    let fed = c.min-within.result in
+    let part = fed_of c.read.new.buf (drop c.min-most.result c.loop-count.piece) c.in-Ok.count fed in
     (cut_at_limit g.A.Answerer.text g.A.Answerer.after c.args.answerer _ _ _ _ _ _ s.answerer t.answerer c.args.limit
-    c.loop-count.taken s.number t.number s.line.items t.line.items t.one_line full c.if-limit-taken.true read
-    c.loop-count.invariant.gave c.in-Ok.ensures.bytes.0
-    did.owes did.state).state_is
+    c.loop-count.taken s.number t.number s.line.items t.line.items {fed = fed} t.one_line (grind (arith, common_steps))
+    c.if-limit-taken.true (part (grind (arith, common_steps)) c.in-Ok.ensures.bound.0) c.loop-count.invariant.gave
+    c.in-Ok.ensures.bytes.0 c.in_ok-feed.ensures.owes c.in_ok-feed.ensures.state).state_is
 
 pub returns-then-limit-taken-clause-taken : goal.returns-then-limit-taken-clause-taken
 returns-then-limit-taken-clause-taken g c =

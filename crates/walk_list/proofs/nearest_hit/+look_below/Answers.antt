@@ -18,7 +18,7 @@ returns-then-is_shut-clause-nears g t c =
     let own = c.requires.visit in
     shut_over tris c.args.p.now c.args.q.now (LeavesOf f v)
     (record_at f.records v.at).fit c.args.l.now.whole c.args.l.now.above v.way own.way
-    (visit_contains f tris v.at v.position own.subtree c.requires.scene)
+    (visit_contains f tris v.at v.position own.subtree c.requires.aim.scene)
     c.args.best.hit c.args.best.most.at c.requires.limit (c.is_shut.ensures c.if-is_shut.true)
 
 pub look_run-requires-clause-order : goal.look_run-requires-clause-order
@@ -35,24 +35,24 @@ look_run-requires-clause-within g t c =
 pub look_below-nearer-requires : goal.look_below-nearer-requires
 look_below-nearer-requires g t c κs within =
     let r = c.requires in
-    let both = c.parts.ensures c.args.p.now c.args.q.now r.line in
+    let both = c.parts.ensures c.args.p.now c.args.q.now r.aim.line in
     let on = both.first_on in
     let inside = both.first.within in
-    (omega (arith, on, inside), (within, (r.line, (r.scene, (r.p, (r.q, (both.first, r.limit)))))))
+    (omega (arith, on, inside), (within, (r.aim, (both.first, r.limit))))
 
 pub look_below-requires : goal.look_below-requires
 look_below-requires g t c κs within =
     let r = c.requires in
-    let both = c.parts.ensures c.args.p.now c.args.q.now r.line in
+    let both = c.parts.ensures c.args.p.now c.args.q.now r.aim.line in
     let on = both.second_on in
     let inside = both.second.within in
     let limit = c.look_below-nearer.ensures.limit in
-    (omega (arith, on, inside), (within, (r.line, (r.scene, (r.p, (r.q, (both.second, limit)))))))
+    (omega (arith, on, inside), (within, (r.aim, (both.second, limit))))
 
 pub returns-clause-nears : goal.returns-clause-nears
 returns-clause-nears g t c =
     let f = c.args.f.now in
-    let both = c.parts.ensures c.args.p.now c.args.q.now c.requires.line in
+    let both = c.parts.ensures c.args.p.now c.args.q.now c.requires.aim.line in
     nears_both (g.S.Triangles.list c.args.tris.now) c.args.p.now c.args.q.now (LeavesOf f c.parts.result.0)
     (LeavesOf f c.parts.result.1) (LeavesOf f c.args.v) c.args.best.hit c.look_below-nearer.result.hit
     c.look_below.result.hit both.all c.look_below-nearer.ensures.nears c.look_below.ensures.nears

@@ -20,7 +20,7 @@ look_below-requires-clause-visit g c =
     let q = c.args.q.now in
     let v = c.visit-whole.result in
     root_visit f p q c.args.l.now.whole v (whole_subtree f.leaves f.records c.records.ensures.covers some).0 some
-    c.visit-whole.ensures.at c.visit-whole.ensures.position (c.visit-whole.ensures.way p q c.requires.line)
+    c.visit-whole.ensures.at c.visit-whole.ensures.position (c.visit-whole.ensures.way p q c.requires.aim.line)
 
 pub returns : goal.returns
 returns g c =

@@ -7,9 +7,13 @@ use Rattle.walk_list.specs.Reaches.{StandsFrom}
 use Rattle.walk_list.proofs.Scenes.{scene, all_stand}
 use Rattle.walk_list.proofs.nearest_hit.nearest_among.Goals as goal
 
-pub look_all-end-requires-clause-scene : goal.look_all-end-requires-clause-scene
-look_all-end-requires-clause-scene g c =
-    scene c.args.f.now (g.S.Triangles.list c.args.tris.now) c.requires.over c.requires.tris
+pub look_all-end-requires-clause-aim : goal.look_all-end-requires-clause-aim
+look_all-end-requires-clause-aim g c = record {
+  line = c.line_of-l.ensures;
+  scene = scene c.args.f.now (g.S.Triangles.list c.args.tris.now) c.requires.over c.requires.tris;
+  begins = c.requires.p;
+  ends = c.requires.q;
+}
 
 pub returns-clause-found : goal.returns-clause-found
 returns-clause-found g c =

@@ -3,6 +3,7 @@ use Rattle.std.proofs.lemmas.Result.{err_from_is_err_and}
 use Rattle.streams.proofs.NextLines.{text_last, state_last}
 use Rattle.streams.proofs.session.Session.finish.Goals as goal
 
+-- a line of some length is not empty
 not_empty : (n : ℕ) (line : List ℕ) (b : Bool) → b ≡ n == 0 → b ≡ false → n ≡ length line → line ≡ [] → ⊥
 not_empty n line b p q e none = let z : n ≡ 0 = e ∙ ap length none in let t : b ≡ true = p ∙ ap (λ k. k == 0) z in cc
 

@@ -1,7 +1,7 @@
 use Rattle.std.proofs.Common.{subst, sym}
 use Rattle.fixed_box.specs.Boxes.{Contains}
 use Rattle.fixed_box.proofs.LeastBoxes.{contains_antisym}
-use Rattle.walk_list.proofs.moving.has_box.Goals as goal
+use Rattle.walk_list.proofs.tests.moves.has_box.Goals as goal
 
 pub returns-then-contains : goal.returns-then-contains
 returns-then-contains c =
