@@ -69,32 +69,27 @@ module _ (f : Frame) (s : State) (ok : IsLawful f s) (k : ℕ) (lt : k < f.worke
       let most = sum_le f.workers (λ i. (s.worker i).next) (λ i. f.batches) (λ i l. (ok.workers i l).next) in
       omega (arith, most, sum_of_same f.workers f.batches)
 
-  -- the steps of a worker stay below their type
-  pub steps_small : f.workers ≤ MOST_WORKERS → f.batches ≤ 2 ^ 20 → f.nodes ≤ 2 ^ 20 → (s.worker k).tally.steps + 1 <
-      2 ^ 64
-  steps_small few short low =
-      let mine = over_has_one f s k (λ w. w.tally.steps) lt in
-      let product : f.workers * f.batches ≤ MOST_WORKERS * 2 ^ 20 = mul-le-mul few short in
-      omega (arith, mine, ok.steps, nexts, all_steps, product)
-
-  -- and its fits
-  pub fits_small : f.nodes ≤ 2 ^ 20 → (s.worker k).tally.fits + 1 < 2 ^ 64
-  fits_small low =
-      let mine = over_has_one f s k (λ w. w.tally.fits) lt in
-      omega (arith, mine, ok.fits, all_fits)
-
-  -- the steps stay below 2 ^ 32
+  -- the steps of a worker stay below 2 ^ 32
   pub steps_low : f.workers ≤ MOST_WORKERS → f.batches ≤ 2 ^ 20 → f.nodes ≤ 2 ^ 20 → (s.worker k).tally.steps < 2 ^ 32
   steps_low few short low =
       let mine = over_has_one f s k (λ w. w.tally.steps) lt in
       let product : f.workers * f.batches ≤ MOST_WORKERS * 2 ^ 20 = mul-le-mul few short in
       omega (arith, mine, ok.steps, nexts, all_steps, product)
 
-  -- and the fits
+  -- and its fits
   pub fits_low : f.nodes ≤ 2 ^ 20 → (s.worker k).tally.fits < 2 ^ 32
   fits_low low =
       let mine = over_has_one f s k (λ w. w.tally.fits) lt in
       omega (arith, mine, ok.fits, all_fits)
+
+  -- so one more stays below their type
+  pub steps_small : f.workers ≤ MOST_WORKERS → f.batches ≤ 2 ^ 20 → f.nodes ≤ 2 ^ 20 →
+      (s.worker k).tally.steps + 1 < 2 ^ 64
+  steps_small few short low = omega (arith, steps_low few short low)
+
+  -- and one more fit
+  pub fits_small : f.nodes ≤ 2 ^ 20 → (s.worker k).tally.fits + 1 < 2 ^ 64
+  fits_small low = omega (arith, fits_low low)
 
   -- what its phase says
   pub next_small : (s.worker k).phase ≡ Looking → (s.worker k).next < f.batches
