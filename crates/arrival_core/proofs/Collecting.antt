@@ -1,5 +1,5 @@
 -- Collecting keeps a state lawful.
-use Rattle.std.proofs.Common.{◌≡◌, ℕ, ◌+◌, ◌*◌, ◌<◌, true, false, refl, sym, ap, ◌∙◌, arith, subst, inl, inr}
+use Rattle.std.proofs.Common.{◌≡◌, ℕ, ◌+◌, ◌*◌, ◌<◌, true, false, sym, ap, ◌∙◌, arith, subst, inl, inr}
 use Rattle.std.specs.Prelude.{◌==◌}
 use Rattle.std.proofs.lemmas.Bool.{cases_eq, cases_Bool}
 use Rattle.arrival_core.specs.declared.packets.Side.{Side}
@@ -12,7 +12,7 @@ use Rattle.arrival_core.specs.States.{Worker, State}
 use Rattle.arrival_core.specs.Events.{same}
 use Rattle.arrival_core.specs.Lawful.{IsLawful, IsLawfulNode, IsLawfulSide, IsLawfulPlace, IsLawfulWorker, Fits, Carries}
 use Rattle.arrival_core.specs.Counts.{at, opened_at, collecting_at, turn, is_nothing, is_out_with, steps_at, steps_of_side, steps_of_node}
-use Rattle.arrival_core.proofs.PutLaws.{bit-zero, bit-true, bit-false, bit-same, eq-true, eq-false, same-refl, same-other_node, at-here, other-same, put_side-same, put_side-apart}
+use Rattle.arrival_core.proofs.PutLaws.{bit-zero, bit-true, bit-false, bit-same, eq-false, same-refl, same-other_node, at-here, other-same, put_side-same, put_side-apart}
 use Rattle.arrival_core.proofs.CountLaws.{opened_mine, side_of, arrived_alone}
 use Rattle.arrival_core.proofs.PhaseLaws.{at_sides, at_side, each_worker, unclaimed-same}
 use Rattle.arrival_core.proofs.KeepLaws.{carries-apart, ready-same, worker-moved, place-same}

@@ -1,15 +1,13 @@
 -- What lawful states rule out: a place with two workers, and a node that is collected twice or early.
-use Rattle.std.proofs.Common.{◌≡◌, ℕ, ◌+◌, ◌<◌, ◌≤◌, true, false, refl, arith, subst, inl, inr}
+use Rattle.std.proofs.Common.{◌≡◌, ℕ, ◌+◌, ◌<◌, ◌≤◌, arith, inl, inr}
 use Rattle.std.specs.Prelude.{◌&&◌}
 use Rattle.std.proofs.lemmas.Bool.{cases_Bool}
-use Rattle.arrival_core.specs.declared.packets.Side.{Side}
 use Rattle.arrival_core.specs.declared.packets.Side.TheVariants.{Left, Right}
 use Rattle.arrival_core.specs.declared.packets.Load.{Load}
 use Rattle.arrival_core.specs.declared.packets.Phase.TheVariants.{Second}
 use Rattle.arrival_core.specs.Sums.{bit}
 use Rattle.arrival_core.specs.Frames.{Frame}
 use Rattle.arrival_core.specs.States.{State}
-use Rattle.arrival_core.specs.Counts.{count_collecting}
 use Rattle.arrival_core.specs.Lawful.{IsLawful}
 use Rattle.arrival_core.specs.Safety.{IsExclusive, IsMet}
 use Rattle.arrival_core.proofs.PutLaws.{bit-one, bit-zero, bit_le}
