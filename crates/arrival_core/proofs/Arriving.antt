@@ -1,6 +1,6 @@
 -- Arriving keeps a state lawful.
 use Rattle.std.proofs.Common.{◌≡◌, ℕ, ◌+◌, ◌*◌, ◌<◌, true, false, refl, sym, ap, ◌∙◌, arith, subst, inl, inr}
-use Rattle.std.specs.Prelude.{◌==◌, ◌&&◌}
+use Rattle.std.specs.Prelude.{◌&&◌}
 use Rattle.std.proofs.lemmas.Bool.{cases_eq, cases_Bool}
 use Rattle.arrival_core.specs.declared.packets.Side.{Side}
 use Rattle.arrival_core.specs.declared.packets.Side.TheVariants.{Left, Right}
@@ -11,11 +11,11 @@ use Rattle.arrival_core.specs.Frames.{Frame, other}
 use Rattle.arrival_core.specs.States.{Worker, State}
 use Rattle.arrival_core.specs.Events.{same}
 use Rattle.arrival_core.specs.Lawful.{IsLawful, IsLawfulNode, IsLawfulSide, IsLawfulPlace, IsLawfulWorker}
-use Rattle.arrival_core.specs.Counts.{opened_at, collecting_at, turn, count_met, is_nothing, is_out_with, steps_at, steps_of_side, steps_of_node}
+use Rattle.arrival_core.specs.Counts.{opened_at, collecting_at, turn, count_met, is_nothing, is_out_with}
 use Rattle.arrival_core.proofs.PutLaws.{bit-true, bit-false, eq-true, eq-false, same-refl, same-other, same-other_node, at-here, at-apart, put_side-same, put_side-apart, put_side-true}
 use Rattle.arrival_core.proofs.CountLaws.{met_mine, opened_two, side_of, not_met}
-use Rattle.arrival_core.proofs.PhaseLaws.{at_sides, at_side, each_worker, unclaimed-same}
-use Rattle.arrival_core.proofs.KeepLaws.{ready-same, worker-same, place-same, live_part}
+use Rattle.arrival_core.proofs.PhaseLaws.{at_side, each_worker, unclaimed-same}
+use Rattle.arrival_core.proofs.KeepLaws.{ready-same, worker-same, place-same, side_seen}
 use Rattle.arrival_core.proofs.OneStep.{fits-same, step_at, step_lawful}
 use Rattle.arrival_core.proofs.ArriveCounts.{both_now, Arrives, load, held_open, off, live, before, had, arrived_now, count_now, met_now, collecting_now}
 
@@ -146,18 +146,9 @@ module _ {f : Frame} {s n : State} {k : ℕ} {l : Load} {w : Worker} (x : Arrive
   worker_after = each_worker f s n k w (λ j v. IsLawfulWorker f n v) worker worker_w
       (λ j lj ne. worker-same f s n (s.worker j) collected claimed (ok.workers j lj))
 
-  -- one event more is seen at its node
-  steps_more : (t : ℕ) → t < f.nodes → steps_at f n t ≡ steps_at f s t + bit (l.split == t)
-  unfolding steps_at steps_of_side steps_of_node
-  steps_more t lt_t =
-      let al = arrived_now x t Left in
-      let ar = arrived_now x t Right in
-      let ll = live_part f l.split l.side t Left (live x) in
-      let lr = live_part f l.split l.side t Right (live x) in
-      let both = at_sides l.split l.side t in
-      rw opened (rw collected (rw returned (rw al (rw ar (omega (arith, ll, lr, both))))))
-
   -- an arrival leads to a lawful state
   pub arriving_lawful : IsLawful f n
   arriving_lawful = step_lawful step node_after worker_after (fits-same step returned fits_is)
-      (step_at step l.split (load x).node steps_more next_is)
+      (step_at step l.split (load x).node
+      (λ t lt_t. side_seen f s n l.split l.side (live x) collected returned (λ t e.
+      let o = ap (λ g. bit (g t e)) opened in omega (arith, arrived_now x t e, o)) t) next_is)

@@ -1,5 +1,6 @@
 -- What an event that touches only some of a state leaves as it was.
 use Rattle.std.proofs.Common.{◌≡◌, ℕ, ◌+◌, ◌*◌, ◌<◌, true, false, refl, sym, ap, ◌∙◌, arith, subst, inl, inr}
+use Rattle.std.specs.Prelude.{◌==◌}
 use Rattle.std.proofs.lemmas.Bool.{cases_Bool}
 use Rattle.arrival_core.specs.declared.packets.Side.{Side}
 use Rattle.arrival_core.specs.declared.packets.Side.TheVariants.{Left, Right}
@@ -11,10 +12,10 @@ use Rattle.arrival_core.specs.Frames.Below.{leaf, inner}
 use Rattle.arrival_core.specs.States.{Worker, State}
 use Rattle.arrival_core.specs.Events.{same, put}
 use Rattle.arrival_core.specs.Lawful.{IsLawfulNode, IsLawfulSide, IsLawfulPlace, IsLawfulWorker, Fits, Carries}
-use Rattle.arrival_core.specs.Counts.{at, over, opened_at, second_at, collecting_at, turn, ready, ready_below, count_opened, count_met, count_collecting, is_out_with}
+use Rattle.arrival_core.specs.Counts.{at, over, opened_at, second_at, collecting_at, turn, ready, ready_below, count_opened, count_met, count_collecting, is_out_with, steps_at, steps_of_side, steps_of_node}
 use Rattle.arrival_core.proofs.PutLaws.{bit-true, eq-true, at-apart}
 use Rattle.arrival_core.proofs.CountLaws.{over_put}
-use Rattle.arrival_core.proofs.PhaseLaws.{at_side, each_worker}
+use Rattle.arrival_core.proofs.PhaseLaws.{at_sides, at_side, each_worker}
 
 -- who is ready stays so where no node is returned
 pub ready_below-same : (s n : State) (b : Below) → n.returned ≡ s.returned → ready_below n b ≡ ready_below s b
@@ -151,3 +152,18 @@ live_part f s d t e live = elim (cases_Bool (same s d t e)) [
   | inl h ↦ at_side (λ t e. bit (live_at f t e) * at s d t e ≡ at s d t e) s d t e h (rw (bit-true live) (omega arith))
   | inr h ↦ rw (at-apart s d t e h) (omega arith)
 ]
+
+-- one event more at a live side is seen at its node
+pub side_seen : (f : Frame) (s n : State) (i : ℕ) (d : Side) → live_at f i d ≡ true → n.collected ≡ s.collected →
+    n.returned ≡ s.returned →
+    ((t : ℕ) (e : Side) →
+    bit (n.opened t e) + bit (n.arrived t e) ≡ bit (s.opened t e) + bit (s.arrived t e) + at i d t e) → (t : ℕ) →
+    steps_at f n t ≡ steps_at f s t + bit (i == t)
+unfolding steps_at steps_of_side steps_of_node
+side_seen f s n i d live collected returned more t =
+    let left = ap (λ z. bit (live_at f t Left) * z) (more t Left) in
+    let right = ap (λ z. bit (live_at f t Right) * z) (more t Right) in
+    let live_left = live_part f i d t Left live in
+    let live_right = live_part f i d t Right live in
+    let both = at_sides i d t in
+    rw collected (rw returned (omega (arith, left, right, live_left, live_right, both)))

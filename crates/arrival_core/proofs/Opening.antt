@@ -11,11 +11,11 @@ use Rattle.arrival_core.specs.Frames.{Frame}
 use Rattle.arrival_core.specs.States.{Worker, State}
 use Rattle.arrival_core.specs.Events.{same}
 use Rattle.arrival_core.specs.Lawful.{IsLawful, IsLawfulNode, IsLawfulSide, IsLawfulPlace, IsLawfulWorker, Fits, Carries}
-use Rattle.arrival_core.specs.Counts.{opened_at, collecting_at, turn, is_nothing, is_out_with, steps_at, steps_of_side, steps_of_node}
+use Rattle.arrival_core.specs.Counts.{opened_at, collecting_at, turn, is_nothing, is_out_with}
 use Rattle.arrival_core.proofs.PutLaws.{bit-true, bit-false, eq-true, eq-false, same-refl, at-here, at-apart, put_side-same, put_side-apart, put_side-true}
 use Rattle.arrival_core.proofs.CountLaws.{opened_mine, met_mine, side_of, not_met}
-use Rattle.arrival_core.proofs.PhaseLaws.{at_sides, at_side, each_worker, unclaimed-same}
-use Rattle.arrival_core.proofs.KeepLaws.{ready-same, worker-same, worker-moved, node-same, place-same, live_part}
+use Rattle.arrival_core.proofs.PhaseLaws.{at_side, each_worker, unclaimed-same}
+use Rattle.arrival_core.proofs.KeepLaws.{ready-same, worker-same, worker-moved, node-same, place-same, side_seen}
 use Rattle.arrival_core.proofs.OneStep.{fits-same, step_at, step_lawful}
 use Rattle.arrival_core.proofs.OpenCounts.{Opens, load, off, live, before, after, had, opened_now, count_now, met_now, collecting_now}
 
@@ -115,18 +115,9 @@ module _ {f : Frame} {s n : State} {k : ℕ} {l : Load} {w : Worker} (x : Opens 
       (worker-moved f s n (s.worker k) w next_is pending_is claimed phase_fits phase_carries (ok.workers k lt))
       (λ j lj ne. worker-same f s n (s.worker j) collected claimed (ok.workers j lj))
 
-  -- one event more is seen at its node
-  steps_more : (t : ℕ) → t < f.nodes → steps_at f n t ≡ steps_at f s t + bit (l.split == t)
-  unfolding steps_at steps_of_side steps_of_node
-  steps_more t lt_t =
-      let ol = opened_now x t Left in
-      let or = opened_now x t Right in
-      let ll = live_part f l.split l.side t Left (live x) in
-      let lr = live_part f l.split l.side t Right (live x) in
-      let both = at_sides l.split l.side t in
-      rw arrived (rw collected (rw returned (rw ol (rw or (omega (arith, ll, lr, both))))))
-
   -- an open leads to a lawful state
   pub opening_lawful : IsLawful f n
   opening_lawful = step_lawful step node_after worker_after (fits-same step returned fits_is)
-      (step_at step l.split (load x).node steps_more next_is)
+      (step_at step l.split (load x).node
+      (λ t lt_t. side_seen f s n l.split l.side (live x) collected returned (λ t e.
+      let a = ap (λ g. bit (g t e)) arrived in omega (arith, opened_now x t e, a)) t) next_is)
