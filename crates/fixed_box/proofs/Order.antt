@@ -1,5 +1,5 @@
 -- The order of points axis by axis: it is an order, and the lesser and the greater coordinates are its bounds.
-use Rattle.std.proofs.Common.{◌≡◌, ℤ, arith}
+use Rattle.std.proofs.Common.{◌≡◌, ℤ, ◌≤ℤ◌, arith}
 use Rattle.std.specs.Int.{int_min, int_max}
 use Rattle.std.proofs.lemmas.Int.{ints, clamps}
 use Rattle.fixed_box.specs.declared.shapes.Point.{Point}
@@ -37,52 +37,64 @@ same_point p q a b c = let e : point p.x p.y p.z ≡ point q.x q.y q.z = rw (a, 
 pub at_most_antisym : (p q : Point) → IsAtMost p q → IsAtMost q p → p ≡ q
 at_most_antisym p q h k = same_point p q (omega (arith, ints)) (omega (arith, ints)) (omega (arith, ints))
 
+-- on one axis: the lesser of two is at most the first
+min_first : (a b m : ℤ) → m ≡ int_min a b → m ≤ℤ a
+min_first a b m h = omega (arith, ints, clamps, h)
+
+-- and at most the second
+min_second : (a b m : ℤ) → m ≡ int_min a b → m ≤ℤ b
+min_second a b m h = omega (arith, ints, clamps, h)
+
+-- what is at most both is at most the lesser
+min_greatest : (a b m c : ℤ) → m ≡ int_min a b → c ≤ℤ a → c ≤ℤ b → c ≤ℤ m
+min_greatest a b m c h first second = omega (arith, ints, clamps, h)
+
+-- the greater of two is at least the first
+max_first : (a b m : ℤ) → m ≡ int_max a b → a ≤ℤ m
+max_first a b m h = omega (arith, ints, clamps, h)
+
+-- and at least the second
+max_second : (a b m : ℤ) → m ≡ int_max a b → b ≤ℤ m
+max_second a b m h = omega (arith, ints, clamps, h)
+
+-- what both are at most, the greater is at most
+max_least : (a b m c : ℤ) → m ≡ int_max a b → a ≤ℤ c → b ≤ℤ c → m ≤ℤ c
+max_least a b m c h first second = omega (arith, ints, clamps, h)
+
 -- the lesser coordinates are at most those of the first point
 pub lesser_first : (p q r : Point) → IsLesser p q r → IsAtMost r p
-lesser_first p q r h = record {
-  x = omega (arith, ints, clamps, h.x);
-  y = omega (arith, ints, clamps, h.y);
-  z = omega (arith, ints, clamps, h.z);
-}
+lesser_first p q r h =
+    record { x = min_first p.x q.x r.x h.x; y = min_first p.y q.y r.y h.y; z = min_first p.z q.z r.z h.z }
 
 -- the lesser coordinates are at most those of the second point
 pub lesser_second : (p q r : Point) → IsLesser p q r → IsAtMost r q
-lesser_second p q r h = record {
-  x = omega (arith, ints, clamps, h.x);
-  y = omega (arith, ints, clamps, h.y);
-  z = omega (arith, ints, clamps, h.z);
-}
+lesser_second p q r h =
+    record { x = min_second p.x q.x r.x h.x; y = min_second p.y q.y r.y h.y; z = min_second p.z q.z r.z h.z }
 
 -- a point that is at most both is at most the lesser coordinates
 pub lesser_greatest : (p q r s : Point) → IsLesser p q r → IsAtMost s p → IsAtMost s q → IsAtMost s r
 lesser_greatest p q r s h a b = record {
-  x = omega (arith, ints, clamps, h.x);
-  y = omega (arith, ints, clamps, h.y);
-  z = omega (arith, ints, clamps, h.z);
+  x = min_greatest p.x q.x r.x s.x h.x a.x b.x;
+  y = min_greatest p.y q.y r.y s.y h.y a.y b.y;
+  z = min_greatest p.z q.z r.z s.z h.z a.z b.z;
 }
 
 -- the greater coordinates are at least those of the first point
 pub greater_first : (p q r : Point) → IsGreater p q r → IsAtMost p r
-greater_first p q r h = record {
-  x = omega (arith, ints, clamps, h.x);
-  y = omega (arith, ints, clamps, h.y);
-  z = omega (arith, ints, clamps, h.z);
-}
+greater_first p q r h =
+    record { x = max_first p.x q.x r.x h.x; y = max_first p.y q.y r.y h.y; z = max_first p.z q.z r.z h.z }
 
 -- the greater coordinates are at least those of the second point
 pub greater_second : (p q r : Point) → IsGreater p q r → IsAtMost q r
-greater_second p q r h = record {
-  x = omega (arith, ints, clamps, h.x);
-  y = omega (arith, ints, clamps, h.y);
-  z = omega (arith, ints, clamps, h.z);
-}
+greater_second p q r h =
+    record { x = max_second p.x q.x r.x h.x; y = max_second p.y q.y r.y h.y; z = max_second p.z q.z r.z h.z }
 
 -- the greater coordinates are at most a point that both are at most
 pub greater_least : (p q r s : Point) → IsGreater p q r → IsAtMost p s → IsAtMost q s → IsAtMost r s
 greater_least p q r s h a b = record {
-  x = omega (arith, ints, clamps, h.x);
-  y = omega (arith, ints, clamps, h.y);
-  z = omega (arith, ints, clamps, h.z);
+  x = max_least p.x q.x r.x s.x h.x a.x b.x;
+  y = max_least p.y q.y r.y s.y h.y a.y b.y;
+  z = max_least p.z q.z r.z s.z h.z a.z b.z;
 }
 
 -- a point with the lesser coordinates, told coordinate by coordinate
