@@ -3,7 +3,6 @@ use Rattle.std.proofs.Common.{◌≡◌, ℕ, ◌+◌, ◌*◌, Bool, true, fals
 use Rattle.std.specs.Prelude.{◌==◌, if◌then◌else◌, Option, Some, None}
 use Rattle.arrival_core.specs.declared.packets.Packet.{Packet}
 use Rattle.arrival_core.specs.declared.packets.Side.{Side}
-use Rattle.arrival_core.specs.declared.packets.Side.TheVariants.{Left}
 use Rattle.arrival_core.specs.declared.packets.Load.{Load}
 use Rattle.arrival_core.specs.declared.packets.Phase.TheVariants.{Second}
 use Rattle.arrival_core.specs.Sums.{bit}
@@ -14,7 +13,8 @@ use Rattle.arrival_core.specs.States.{Worker, State}
 use Rattle.arrival_core.specs.Events.{resume, stepped, fitted, go_up}
 use Rattle.arrival_core.specs.Lawful.{IsLawfulWorker, IsLoad, Fits, Carries}
 use Rattle.arrival_core.specs.Counts.{has, times, carries, opened_at, second_at, collecting_at}
-use Rattle.arrival_core.proofs.PhaseLaws.{has_resumed, resumed_next, resumed_tally, resumed_counts}
+use Rattle.arrival_core.proofs.PhaseLaws.{resumed_next, resumed_tally}
+use Rattle.arrival_core.proofs.OneStep.{Amounts, resumed_amounts}
 use Rattle.arrival_core.proofs.RuleOfNext.{resume_lawful}
 use Rattle.arrival_core.proofs.LeaveCounts.{up_at}
 
@@ -40,29 +40,20 @@ module _ (f : Frame) (w : Worker) (l : Load) where
   arrived_steps true = refl
   arrived_steps false = ap (λ t. t.steps) (resumed_tally f w.next w.pending (stepped w.tally))
 
-  -- what it has
-  pub arrived_has : (b : Bool) (t : ℕ) (e : Side) → has f t e (arrived_worker f w l b) ≡ times f w.pending t e
-  unfolding has carries opened_at
-  arrived_has true t e = omega arith
-  arrived_has false t e = has_resumed f w.next w.pending (stepped w.tally) t e
-
-  -- it is behind no opening
-  pub arrived_opened : (b : Bool) (t : ℕ) (e : Side) → opened_at (arrived_worker f w l b).phase t e ≡ 0
-  unfolding opened_at
-  arrived_opened true t e = refl
-  arrived_opened false t e = (resumed_counts f w.next w.pending (stepped w.tally) t e).0
-
-  -- it is second where the other side had arrived
-  pub arrived_second : (b : Bool) (t : ℕ) → second_at (arrived_worker f w l b).phase t ≡ bit (l.split == t) * bit b
-  unfolding second_at
-  arrived_second true t = omega arith
-  arrived_second false t = let c = (resumed_counts f w.next w.pending (stepped w.tally) t Left).1 in omega (arith, c)
-
-  -- it collects nowhere
-  pub arrived_collecting : (b : Bool) (t : ℕ) → collecting_at (arrived_worker f w l b).phase t ≡ 0
-  unfolding collecting_at
-  arrived_collecting true t = refl
-  arrived_collecting false t = (resumed_counts f w.next w.pending (stepped w.tally) t Left).2
+  -- what it has and counts for: it is second where the other side had arrived
+  pub arrived_amounts : (b : Bool) (t : ℕ) (e : Side) →
+      Amounts f (arrived_worker f w l b) t e (times f w.pending t e) 0 (bit (l.split == t) * bit b) 0
+  unfolding has carries opened_at second_at collecting_at
+  arrived_amounts true t e =
+      record { had_is = omega arith; opened_is = refl; second_is = omega arith; collecting_is = refl }
+  arrived_amounts false t e =
+      let c = resumed_amounts f w.next w.pending (stepped w.tally) t e in
+      record {
+        had_is = c.had_is;
+        opened_is = c.opened_is;
+        second_is = omega (arith, c.second_is);
+        collecting_is = c.collecting_is;
+      }
 
   -- it is lawful
   pub arrived_lawful : IsFrame f → (n : State) → IsLawfulWorker f n w → IsLoad f l → (b : Bool) →
@@ -93,30 +84,20 @@ module _ (f : Frame) (w : Worker) (l : Load) where
   gone_steps None p = ap (λ t. t.steps) (resumed_tally f w.next w.pending (fitted w.tally))
   gone_steps (Some u) p = refl
 
-  -- what it has: one more, above the node
-  pub gone_has : (a : Option Up) (p : Packet) (t : ℕ) (e : Side) →
-      has f t e (go_up f a p w) ≡ times f w.pending t e + up_at a t e
-  unfolding has carries opened_at up_at
-  gone_has None p t e = let h = has_resumed f w.next w.pending (fitted w.tally) t e in omega (arith, h)
-  gone_has (Some u) p t e = omega arith
-
-  -- it is behind no opening
-  pub gone_opened : (a : Option Up) (p : Packet) (t : ℕ) (e : Side) → opened_at (go_up f a p w).phase t e ≡ 0
-  unfolding opened_at
-  gone_opened None p t e = (resumed_counts f w.next w.pending (fitted w.tally) t e).0
-  gone_opened (Some u) p t e = refl
-
-  -- it is second nowhere
-  pub gone_second : (a : Option Up) (p : Packet) (t : ℕ) → second_at (go_up f a p w).phase t ≡ 0
-  unfolding second_at
-  gone_second None p t = (resumed_counts f w.next w.pending (fitted w.tally) t Left).1
-  gone_second (Some u) p t = refl
-
-  -- it collects nowhere
-  pub gone_collecting : (a : Option Up) (p : Packet) (t : ℕ) → collecting_at (go_up f a p w).phase t ≡ 0
-  unfolding collecting_at
-  gone_collecting None p t = (resumed_counts f w.next w.pending (fitted w.tally) t Left).2
-  gone_collecting (Some u) p t = refl
+  -- what it has and counts for: one more, above the node
+  pub gone_amounts : (a : Option Up) (p : Packet) (t : ℕ) (e : Side) →
+      Amounts f (go_up f a p w) t e (times f w.pending t e + up_at a t e) 0 0 0
+  unfolding has carries opened_at second_at collecting_at up_at
+  gone_amounts None p t e =
+      let c = resumed_amounts f w.next w.pending (fitted w.tally) t e in
+      record {
+        had_is = omega (arith, c.had_is);
+        opened_is = c.opened_is;
+        second_is = c.second_is;
+        collecting_is = c.collecting_is;
+      }
+  gone_amounts (Some u) p t e =
+      record { had_is = omega arith; opened_is = refl; second_is = refl; collecting_is = refl }
 
   -- it is lawful
   pub gone_lawful : IsFrame f → (n : State) → IsLawfulWorker f n w → (a : Option Up) (p : Packet) →

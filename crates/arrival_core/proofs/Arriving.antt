@@ -1,45 +1,27 @@
 -- Arriving keeps a state lawful.
 use Rattle.std.proofs.Common.{◌≡◌, ℕ, ◌+◌, ◌*◌, ◌<◌, true, false, refl, sym, ap, ◌∙◌, arith, subst, inl, inr}
-use Rattle.std.specs.Prelude.{◌==◌, ◌&&◌}
+use Rattle.std.specs.Prelude.{◌&&◌}
 use Rattle.std.proofs.lemmas.Bool.{cases_eq, cases_Bool}
 use Rattle.arrival_core.specs.declared.packets.Side.{Side}
 use Rattle.arrival_core.specs.declared.packets.Side.TheVariants.{Left, Right}
 use Rattle.arrival_core.specs.declared.packets.Load.{Load}
 use Rattle.arrival_core.specs.declared.packets.Place.TheVariants.{Holds}
-use Rattle.arrival_core.specs.Sums.{bit, sum_below}
+use Rattle.arrival_core.specs.Sums.{bit}
 use Rattle.arrival_core.specs.Frames.{Frame, other}
 use Rattle.arrival_core.specs.States.{Worker, State}
 use Rattle.arrival_core.specs.Events.{same}
 use Rattle.arrival_core.specs.Lawful.{IsLawful, IsLawfulNode, IsLawfulSide, IsLawfulPlace, IsLawfulWorker}
-use Rattle.arrival_core.specs.Counts.{opened_at, collecting_at, turn, count_met, is_nothing, is_out_with, steps_at, steps_of_side, steps_of_node}
+use Rattle.arrival_core.specs.Counts.{opened_at, collecting_at, turn, count_met, is_nothing, is_out_with}
 use Rattle.arrival_core.proofs.PutLaws.{bit-true, bit-false, eq-true, eq-false, same-refl, same-other, same-other_node, at-here, at-apart, put_side-same, put_side-apart, put_side-true}
-use Rattle.arrival_core.proofs.CountLaws.{over_put, met_mine, opened_two, side_of, not_met}
-use Rattle.arrival_core.proofs.PhaseLaws.{at_sides, at_side, sum_more, each_worker, unclaimed-same}
-use Rattle.arrival_core.proofs.KeepLaws.{ready-same, worker-same, place-same, tally_put, live_part}
-use Rattle.arrival_core.proofs.ArriveCounts.{Arrives, load, held_open, off, live, before, had, arrived_now, count_now, met_now, collecting_now}
-use Rattle.arrival_core.proofs.ArriveCounts.{both_now}
+use Rattle.arrival_core.proofs.CountLaws.{met_mine, opened_two, side_of, not_met}
+use Rattle.arrival_core.proofs.PhaseLaws.{at_side, each_worker, unclaimed-same}
+use Rattle.arrival_core.proofs.KeepLaws.{ready-same, worker-same, place-same, side_seen}
+use Rattle.arrival_core.proofs.OneStep.{fits-same, step_at, step_lawful}
+use Rattle.arrival_core.proofs.ArriveCounts.{both_now, Arrives, load, held_open, off, live, before, had, arrived_now, count_now, met_now, collecting_now}
 
 module _ {f : Frame} {s n : State} {k : ℕ} {l : Load} {w : Worker} (x : Arrives f s n k l w) where
-  open x use {
-    ok,
-    lt,
-    phase,
-    claimed,
-    opened,
-    arrived,
-    collected,
-    returned,
-    place,
-    worker,
-    next_is,
-    has_w,
-    opened_w,
-    second_w,
-    collecting_w,
-    worker_w,
-    fits_is,
-    steps_is,
-  }
+  open x use {step, step.{ok, lt, claimed, opened, arrived, collected, returned, place, worker}}
+  open x use {next_is, after, worker_w, fits_is}
 
   -- the place that is given back is out with nobody
   out_here : (j : ℕ) → j < f.workers →
@@ -48,9 +30,7 @@ module _ {f : Frame} {s n : State} {k : ℕ} {l : Load} {w : Worker} (x : Arrive
   out_here = each_worker f s n k w
       (λ j v. 0 ≡ opened_at v.phase l.split l.side
       + collecting_at v.phase l.split * bit (n.collected l.split l.side)) worker
-      (let a = opened_w l.split l.side in
-      let b = collecting_w l.split in
-      rw b (omega (arith, a)))
+      (let a = after l.split l.side in rw a.collecting_is (omega (arith, a.opened_is)))
       (λ j lj ne.
       let two = opened_two f s j k l.split l.side lj lt (λ z. ne (sym z)) in
       let mine = (before x l.split l.side).opened_is in
@@ -83,13 +63,14 @@ module _ {f : Frame} {s n : State} {k : ℕ} {l : Load} {w : Worker} (x : Arrive
     | inl h ↦ at_side (IsLawfulPlace f n) l.split l.side t e h place_here
     | inr h ↦
         let b = before x t e in
+        let a = after t e in
         let apart = at-apart l.split l.side t e h in
         let x : opened_at (s.worker k).phase t e ≡ 0 = omega (arith, b.opened_is, apart) in
         place-same f s n k w t e (side_of f s ok t e lt_t).place worker lt
         (ap (λ g. g t e) place ∙ put_side-apart s.place l.split l.side (Holds l.packet) t e h)
         (ap (λ g. g t e) collected)
         (ap (λ g. g t e) opened)
-        (rw x (rw (opened_w t e) (rw (collecting_w t) (rw b.collecting_is refl))))
+        (rw x (rw a.opened_is (rw a.collecting_is (rw b.collecting_is refl))))
   ]
 
   -- every side is
@@ -165,28 +146,9 @@ module _ {f : Frame} {s n : State} {k : ℕ} {l : Load} {w : Worker} (x : Arrive
   worker_after = each_worker f s n k w (λ j v. IsLawfulWorker f n v) worker worker_w
       (λ j lj ne. worker-same f s n (s.worker j) collected claimed (ok.workers j lj))
 
-  -- one event more is seen at its node
-  steps_more : (t : ℕ) → t < f.nodes → steps_at f n t ≡ steps_at f s t + bit (l.split == t)
-  unfolding steps_at steps_of_side steps_of_node
-  steps_more t lt_t =
-      let al = arrived_now x t Left in
-      let ar = arrived_now x t Right in
-      let ll = live_part f l.split l.side t Left (live x) in
-      let lr = live_part f l.split l.side t Right (live x) in
-      let both = at_sides l.split l.side t in
-      rw opened (rw collected (rw returned (rw al (rw ar (omega (arith, ll, lr, both))))))
-
   -- an arrival leads to a lawful state
   pub arriving_lawful : IsLawful f n
-  arriving_lawful =
-      let fits = over_put f s n k w (λ v. v.tally.fits) lt worker in
-      let same_fits = ap (λ g. sum_below f.nodes (λ t. bit (f.live_node t) * bit (g t))) returned in
-      let steps = tally_put f s n k w lt worker steps_is in
-      let nexts = over_put f s n k w (λ v. v.next) lt worker in
-      let more = sum_more f.nodes l.split (steps_at f n) (steps_at f s) (load x).node steps_more in
-      record {
-        nodes = node_after;
-        workers = worker_after;
-        fits = omega (arith, fits, fits_is, ok.fits, same_fits);
-        steps = omega (arith, steps, nexts, next_is, more, ok.steps);
-      }
+  arriving_lawful = step_lawful step node_after worker_after (fits-same step returned fits_is)
+      (step_at step l.split (load x).node
+      (λ t lt_t. side_seen f s n l.split l.side (live x) collected returned (λ t e.
+      let o = ap (λ g. bit (g t e)) opened in omega (arith, arrived_now x t e, o)) t) next_is)

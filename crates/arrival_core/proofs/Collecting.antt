@@ -1,43 +1,29 @@
 -- Collecting keeps a state lawful.
-use Rattle.std.proofs.Common.{◌≡◌, ℕ, ◌+◌, ◌*◌, ◌<◌, true, false, refl, sym, ap, ◌∙◌, arith, subst, inl, inr}
+use Rattle.std.proofs.Common.{◌≡◌, ℕ, ◌+◌, ◌*◌, ◌<◌, true, false, sym, ap, ◌∙◌, arith, subst, inl, inr}
 use Rattle.std.specs.Prelude.{◌==◌}
 use Rattle.std.proofs.lemmas.Bool.{cases_eq, cases_Bool}
 use Rattle.arrival_core.specs.declared.packets.Side.{Side}
 use Rattle.arrival_core.specs.declared.packets.Side.TheVariants.{Left, Right}
 use Rattle.arrival_core.specs.declared.packets.Load.{Load}
 use Rattle.arrival_core.specs.declared.packets.Place.TheVariants.{Out}
-use Rattle.arrival_core.specs.Sums.{bit, sum_below}
+use Rattle.arrival_core.specs.Sums.{bit}
 use Rattle.arrival_core.specs.Frames.{Frame, other}
 use Rattle.arrival_core.specs.States.{Worker, State}
 use Rattle.arrival_core.specs.Events.{same}
 use Rattle.arrival_core.specs.Lawful.{IsLawful, IsLawfulNode, IsLawfulSide, IsLawfulPlace, IsLawfulWorker, Fits, Carries}
 use Rattle.arrival_core.specs.Counts.{at, opened_at, collecting_at, turn, is_nothing, is_out_with, steps_at, steps_of_side, steps_of_node}
-use Rattle.arrival_core.proofs.PutLaws.{bit-zero, bit-true, bit-false, eq-true, eq-false, same-refl, same-other_node, at-here, other-same, put_side-same, put_side-apart}
-use Rattle.arrival_core.proofs.CountLaws.{over_put, opened_mine, side_of, arrived_alone}
-use Rattle.arrival_core.proofs.PhaseLaws.{at_sides, at_side, sum_more, each_worker, unclaimed-same}
-use Rattle.arrival_core.proofs.KeepLaws.{carries-apart, ready-same, place-same, tally_put}
-use Rattle.arrival_core.proofs.CollectCounts.{Collects, found_is, load, one, other_arrived, live, uncollected, collected_now, others, before, after, had, count_now, met_now, collecting_now}
+use Rattle.arrival_core.proofs.PutLaws.{bit-zero, bit-true, bit-false, bit-same, eq-false, same-refl, same-other_node, at-here, other-same, put_side-same, put_side-apart}
+use Rattle.arrival_core.proofs.CountLaws.{opened_mine, side_of, arrived_alone}
+use Rattle.arrival_core.proofs.PhaseLaws.{at_sides, at_side, each_worker, unclaimed-same}
+use Rattle.arrival_core.proofs.KeepLaws.{carries-apart, ready-same, worker-moved, place-same}
+use Rattle.arrival_core.proofs.OneStep.{fits-same, step_at, step_lawful}
+use Rattle.arrival_core.proofs.CollectCounts.{Collects, found_is, load, alone, uncollected, collected_now, others, before, after, had, count_now, met_now, collecting_now}
 
 module _ {f : Frame} {s n : State} {k : ℕ} {l : Load} {w : Worker} (x : Collects f s n k l w) where
-  open x use {
-    ok,
-    lt,
-    phase,
-    claimed,
-    opened,
-    arrived,
-    collected,
-    returned,
-    place,
-    worker,
-    next_is,
-    pending_is,
-    phase_is,
-    fits_is,
-    steps_is,
-  }
+  open x use {step, step.{ok, lt, claimed, opened, arrived, collected, returned, place, worker}}
+  open x use {next_is, pending_is, phase_is, fits_is}
 
-  -- the place that is taken out is out with the worker (alone x)
+  -- the place that is taken out is out with the worker alone
   out_here : (j : ℕ) → j < f.workers → is_out_with j (Out k)
       ≡ turn (n.worker j).phase (n.collected l.split (other l.side)) l.split (other l.side)
   unfolding is_out_with turn
@@ -48,11 +34,10 @@ module _ {f : Frame} {s n : State} {k : ℕ} {l : Load} {w : Worker} (x : Collec
       let here = at-here l.split (other l.side) in
       let on : bit (n.collected l.split (other l.side)) ≡ 1
       = omega (arith, collected_now x l.split (other l.side), here, uncollected x (other l.side)) in
-      let same_one = bit-true (eq-true k k refl) in
-      rw same_one (rw on (omega (arith, a.opened_is, a.collecting_is, (one x)))))
+      rw (bit-same k) (rw on (omega (arith, a.opened_is, a.collecting_is, bit-same l.split))))
       (λ j lj ne.
       let a = opened_mine f s j l.split (other l.side) lj in
-      let quiet = (arrived_alone f s ok l.split (other l.side) (load x).node (other_arrived x)).1 in
+      let quiet = (arrived_alone f s ok l.split (other l.side) (load x).node ((alone x).arrived (other l.side))).1 in
       let zero = others x j lj ne in
       let apart = bit-false (eq-false k j ne) in
       rw apart (rw zero (omega (arith, a, quiet))))
@@ -66,7 +51,7 @@ module _ {f : Frame} {s n : State} {k : ℕ} {l : Load} {w : Worker} (x : Collec
       (same-refl l.split (other l.side)) in
       let o : bit (n.opened l.split (other l.side)) ≡ bit (s.opened l.split (other l.side))
       = ap (λ g. bit (g l.split (other l.side))) opened in
-      let on = (arrived_alone f s ok l.split (other l.side) (load x).node (other_arrived x)).0 in
+      let on = (arrived_alone f s ok l.split (other l.side) (load x).node ((alone x).arrived (other l.side))).0 in
       record {
         nothing = rw at_it (omega (arith, o, on));
         out = rw at_it out_here;
@@ -133,7 +118,7 @@ module _ {f : Frame} {s n : State} {k : ℕ} {l : Load} {w : Worker} (x : Collec
         rests_returned = λ de. r ∙ old.rests_returned de;
         rests_uncollected = λ de.
             let apart : bit (l.split == t) ≡ 0 = bit-false (eq-false l.split t
-            (λ z. let on = bit-true (live x) in
+            (λ z. let on = bit-true (alone x).live in
             let dead : f.live_node l.split ≡ false = subst (λ z. f.live_node z ≡ false) (sym z) de in
             let off = bit-false dead in
             omega (arith, on, off))) in
@@ -162,13 +147,7 @@ module _ {f : Frame} {s n : State} {k : ℕ} {l : Load} {w : Worker} (x : Collec
   -- every worker is lawful
   worker_after : (j : ℕ) → j < f.workers → IsLawfulWorker f n (n.worker j)
   worker_after = each_worker f s n k w (λ j v. IsLawfulWorker f n v) worker
-      (let old = ok.workers k lt in record {
-        next = rw next_is old.next;
-        claimed = λ j less. ap (λ g. g j) claimed ∙ old.claimed j (omega (arith, next_is));
-        positions = rw pending_is old.positions;
-        phase = phase_fits;
-        carries = phase_carries;
-      })
+      (worker-moved f s n (s.worker k) w next_is pending_is claimed phase_fits phase_carries (ok.workers k lt))
       (λ j lj ne. let old = ok.workers j lj in record {
         next = old.next;
         claimed = λ i less. ap (λ g. g i) claimed ∙ old.claimed i less;
@@ -184,7 +163,7 @@ module _ {f : Frame} {s n : State} {k : ℕ} {l : Load} {w : Worker} (x : Collec
             old.carries;
       })
 
-  -- (one x) event more is seen at its node
+  -- one event more is seen at its node
   steps_more : (t : ℕ) → t < f.nodes → steps_at f n t ≡ steps_at f s t + bit (l.split == t)
   unfolding steps_at steps_of_side steps_of_node
   steps_more t lt_t =
@@ -193,7 +172,7 @@ module _ {f : Frame} {s n : State} {k : ℕ} {l : Load} {w : Worker} (x : Collec
       let both = at_sides l.split (other l.side) t in
       let liv : bit (f.live_node t) * bit (l.split == t) ≡ bit (l.split == t) = elim (cases_eq l.split t) [
         | inl z ↦ subst (λ t. bit (f.live_node t) * bit (l.split == t) ≡ bit (l.split == t)) z
-            (rw (bit-true (live x)) (omega arith))
+            (rw (bit-true (alone x).live) (omega arith))
         | inr z ↦ rw (bit-false (eq-false l.split t z)) (omega arith)
       ] in
       let spread : bit (f.live_node t) * (at l.split (other l.side) t Left + at l.split (other l.side) t Right)
@@ -202,15 +181,5 @@ module _ {f : Frame} {s n : State} {k : ℕ} {l : Load} {w : Worker} (x : Collec
 
   -- a collect leads to a lawful state
   pub collecting_lawful : IsLawful f n
-  collecting_lawful =
-      let fits = over_put f s n k w (λ v. v.tally.fits) lt worker in
-      let same_fits = ap (λ g. sum_below f.nodes (λ t. bit (f.live_node t) * bit (g t))) returned in
-      let steps = tally_put f s n k w lt worker steps_is in
-      let nexts = over_put f s n k w (λ v. v.next) lt worker in
-      let more = sum_more f.nodes l.split (steps_at f n) (steps_at f s) (load x).node steps_more in
-      record {
-        nodes = node_after;
-        workers = worker_after;
-        fits = omega (arith, fits, fits_is, ok.fits, same_fits);
-        steps = omega (arith, steps, nexts, next_is, more, ok.steps);
-      }
+  collecting_lawful = step_lawful step node_after worker_after (fits-same step returned fits_is)
+      (step_at step l.split (load x).node steps_more next_is)

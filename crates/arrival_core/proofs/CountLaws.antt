@@ -105,6 +105,13 @@ bit-and true false = refl
 bit-and false true = refl
 bit-and false false = refl
 
+-- one worker alone is behind the second arrival at a node, which is live
+pub record IsMetAlone (f : Frame) (s : State) (t : ℕ) : Type 0 where
+  pub alone : count_met f s t ≡ 1
+  pub unreturned : bit (s.returned t) ≡ 0
+  pub arrived : (e : Side) → bit (s.arrived t e) ≡ 1
+  pub live : f.live_node t ≡ true
+
 module _ (f : Frame) (s : State) (ok : IsLawful f s) where
   -- a side of a lawful state
   pub side_of : (t : ℕ) (e : Side) → t < f.nodes → IsLawfulSide f s t e
@@ -157,13 +164,28 @@ module _ (f : Frame) (s : State) (ok : IsLawful f s) where
 
     -- where a worker came second or collects, it alone does, both sides have arrived and nobody has a side opened
     pub met_by : (k : ℕ) → k < f.workers → second_at (s.worker k).phase t + collecting_at (s.worker k).phase t ≡ 1 →
-        (count_met f s t ≡ 1) × (bit (s.returned t) ≡ 0) × (bit (s.arrived t Left) ≡ 1) × (bit (s.arrived t Right) ≡ 1)
+        IsMetAlone f s t
     met_by k lk one =
         let mine = met_mine f s k t lk in
         let met = (ok.nodes t lt).met in
         let small = bit_le (s.arrived t Left && s.arrived t Right) in
         let both = and_parts (s.arrived t Left) (s.arrived t Right) (bit-one _ (omega arith)) in
-        (omega arith, omega arith, bit-true both.0, bit-true both.1)
+        let none : bit (s.returned t) ≡ 0 = omega arith in
+        record {
+          alone = omega arith;
+          unreturned = none;
+          arrived = λ e. bit-true (on e both);
+          live = elim (cases_Bool (f.live_node t)) [
+            | inl h ↦ h
+            | inr h ↦
+                let r = bit-true ((ok.nodes t lt).rests_returned h) in
+                absurd (omega (arith, r, none))
+          ];
+        }
+      where
+        on : (e : Side) → (s.arrived t Left ≡ true) × (s.arrived t Right ≡ true) → s.arrived t e ≡ true
+        on Left both = both.0
+        on Right both = both.1
 
     -- where a side has not arrived, no worker is behind the second arrival
     pub not_met : bit (s.arrived t e) ≡ 0 → count_met f s t ≡ 0

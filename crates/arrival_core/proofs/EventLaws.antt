@@ -15,7 +15,8 @@ use Rattle.arrival_core.specs.States.{Worker, State}
 use Rattle.arrival_core.specs.Events.{put, resume, join, held, stepped, go_up, take, open_side, arrive, collect, leave, event_in, event}
 use Rattle.arrival_core.specs.Lawful.{IsLawful, IsLoad, IsFound, Fits, Carries}
 use Rattle.arrival_core.proofs.PutLaws.{put-here, put-true}
-use Rattle.arrival_core.proofs.PhaseLaws.{has_resumed, resumed_next, resumed_tally, resumed_counts}
+use Rattle.arrival_core.proofs.PhaseLaws.{resumed_next, resumed_tally}
+use Rattle.arrival_core.proofs.OneStep.{steps_here, resumed_amounts}
 use Rattle.arrival_core.proofs.RuleOfNext.{resume_lawful}
 use Rattle.arrival_core.proofs.Opening.{opening_lawful}
 use Rattle.arrival_core.proofs.Arriving.{arriving_lawful}
@@ -23,7 +24,7 @@ use Rattle.arrival_core.proofs.Collecting.{collecting_lawful}
 use Rattle.arrival_core.proofs.Leaving.{leaving_lawful}
 use Rattle.arrival_core.proofs.Taking.{taking_lawful}
 use Rattle.arrival_core.proofs.KeepLaws.{worker-same}
-use Rattle.arrival_core.proofs.AfterEvents.{arrived_worker, arrived_next, arrived_fits, arrived_steps, arrived_has, arrived_opened, arrived_second, arrived_collecting, arrived_lawful, gone_next, gone_fits, gone_steps, gone_has, gone_opened, gone_second, gone_collecting, gone_lawful}
+use Rattle.arrival_core.proofs.AfterEvents.{arrived_worker, arrived_next, arrived_fits, arrived_steps, arrived_amounts, arrived_lawful, gone_next, gone_fits, gone_steps, gone_amounts, gone_lawful}
 
 module _ (f : Frame) (fr : IsFrame f) (s : State) (ok : IsLawful f s) (k : ℕ) (lt : k < f.workers) where
   -- after an open
@@ -31,21 +32,12 @@ module _ (f : Frame) (fr : IsFrame f) (s : State) (ok : IsLawful f s) (k : ℕ) 
   unfolding open_side
   open_lawful l phase = opening_lawful {s = s} {k = k} {l = l}
       {w = record (s.worker k) { phase = Opened l; tally = stepped (s.worker k).tally }} (record {
-        ok = ok;
-        lt = lt;
+        step = steps_here f s (open_side k l s) k _ ok lt refl refl;
         phase = phase;
-        claimed = refl;
-        opened = refl;
-        arrived = refl;
-        collected = refl;
-        returned = refl;
-        place = refl;
-        worker = refl;
         next_is = refl;
         pending_is = refl;
         phase_is = refl;
         fits_is = refl;
-        steps_is = refl;
       })
 
   -- after a collect
@@ -56,21 +48,12 @@ module _ (f : Frame) (fr : IsFrame f) (s : State) (ok : IsLawful f s) (k : ℕ) 
         phase = Collecting l (held (s.place l.split (other l.side)) l.packet);
         tally = stepped (s.worker k).tally;
       }} (record {
-        ok = ok;
-        lt = lt;
+        step = steps_here f s (collect k l s) k _ ok lt refl refl;
         phase = phase;
-        claimed = refl;
-        opened = refl;
-        arrived = refl;
-        collected = refl;
-        returned = refl;
-        place = refl;
-        worker = refl;
         next_is = refl;
         pending_is = refl;
         phase_is = refl;
         fits_is = refl;
-        steps_is = refl;
       })
 
 -- the packet that a worker makes of its own and the one that it found is its node's
@@ -90,25 +73,13 @@ module _ (f : Frame) (fr : IsFrame f) (s : State) (ok : IsLawful f s) (k : ℕ) 
       let load : IsLoad f l = subst (Carries f s) phase (ok.workers k lt).carries in
       arriving_lawful {s = s} {k = k} {l = l} {w = arrived_worker f (s.worker k) l (s.arrived l.split (other l.side))}
       (record {
-        ok = ok;
-        lt = lt;
+        step = steps_here f s (arrive f k l s) k _ ok lt refl (arrived_steps f w l b);
         phase = phase;
-        claimed = refl;
-        opened = refl;
-        arrived = refl;
-        collected = refl;
-        returned = refl;
-        place = refl;
-        worker = refl;
         next_is = arrived_next f w l b;
-        has_w = arrived_has f w l b;
-        opened_w = arrived_opened f w l b;
-        second_w = arrived_second f w l b;
-        collecting_w = arrived_collecting f w l b;
+        after = arrived_amounts f w l b;
         worker_w = arrived_lawful f w l fr (arrive f k l s)
             (worker-same f s (arrive f k l s) w refl refl (ok.workers k lt)) load b;
         fits_is = arrived_fits f w l b;
-        steps_is = arrived_steps f w l b;
       })
 
   -- after a leave
@@ -125,21 +96,10 @@ module _ (f : Frame) (fr : IsFrame f) (s : State) (ok : IsLawful f s) (k : ℕ) 
       leaving_lawful {s = s} {k = k} {l = l} {found = found}
       {w = go_up f (f.above_node l.split) (join l.split l.side l.packet found) (s.worker k)} (record {
         fr = fr;
-        ok = ok;
-        lt = lt;
+        step = steps_here f s (leave f k l found s) k _ ok lt refl (gone_steps f w l a p);
         phase = phase;
-        claimed = refl;
-        opened = refl;
-        arrived = refl;
-        collected = refl;
-        returned = refl;
-        place = refl;
-        worker = refl;
         next_is = gone_next f w l a p;
-        has_w = gone_has f w l a p;
-        opened_w = gone_opened f w l a p;
-        second_w = gone_second f w l a p;
-        collecting_w = gone_collecting f w l a p;
+        after = gone_amounts f w l a p;
         worker_w = gone_lawful f w l fr (leave f k l found s)
             (worker-same f s (leave f k l found s) w refl refl (ok.workers k lt)) a p
             (λ u h. record {
@@ -147,7 +107,6 @@ module _ (f : Frame) (fr : IsFrame f) (s : State) (ok : IsLawful f s) (k : ℕ) 
               packet = made ∙ sym (ap (packet_below f) (fr.up_child l.split u right.own.node h));
             });
         fits_is = gone_fits f w l a p;
-        steps_is = gone_steps f w l a p;
       })
 
   -- after a take
@@ -157,23 +116,26 @@ module _ (f : Frame) (fr : IsFrame f) (s : State) (ok : IsLawful f s) (k : ℕ) 
       let w : Worker = s.worker k in
       let ps : List ℕ = if s.claimed (s.worker k).next then [] else f.batch (s.worker k).next in
       let looking : (w.pending ≡ []) × (w.next < f.batches) = subst (Fits f w) phase (ok.workers k lt).phase in
-      taking_lawful f fr s (take f k s) k ps (resume f ((s.worker k).next + 1) ps (stepped (s.worker k).tally))
-      ok lt phase refl refl refl refl refl refl refl refl
-      (resumed_next f (w.next + 1) ps (stepped w.tally)) (has_resumed f (w.next + 1) ps (stepped w.tally))
-      (λ t e. (resumed_counts f (w.next + 1) ps (stepped w.tally) t e).0)
-      (λ t. (resumed_counts f (w.next + 1) ps (stepped w.tally) t Left).1)
-      (λ t. (resumed_counts f (w.next + 1) ps (stepped w.tally) t Left).2)
-      (resume_lawful f fr (take f k s) (w.next + 1) ps (stepped w.tally) (omega (arith, looking.1))
-      (λ j less. elim (cases_eq w.next j) [
-        | inl z ↦ subst (λ j. put s.claimed w.next true j ≡ true) z (put-here s.claimed w.next true)
-        | inr z ↦ put-true s.claimed w.next j ((ok.workers k lt).claimed j (omega arith))
-      ])
-      (elim (cases_Bool (s.claimed w.next)) [
-        | inl z ↦ rw z (λ j d less. absurd (omega arith))
-        | inr z ↦ rw z (fr.positions w.next looking.1)
-      ]))
-      (ap (λ t. t.fits) (resumed_tally f (w.next + 1) ps (stepped w.tally)))
-      (ap (λ t. t.steps) (resumed_tally f (w.next + 1) ps (stepped w.tally)))
+      let tally = resumed_tally f (w.next + 1) ps (stepped w.tally) in
+      taking_lawful {s = s} {k = k} {ps = ps} {w = resume f ((s.worker k).next + 1) ps (stepped (s.worker k).tally)}
+      (record {
+        step = steps_here f s (take f k s) k _ ok lt refl (ap (λ t. t.steps) tally);
+        fr = fr;
+        phase = phase;
+        ps_is = refl;
+        next_is = resumed_next f (w.next + 1) ps (stepped w.tally);
+        after = resumed_amounts f (w.next + 1) ps (stepped w.tally);
+        worker_w = resume_lawful f fr (take f k s) (w.next + 1) ps (stepped w.tally) (omega (arith, looking.1))
+            (λ j less. elim (cases_eq w.next j) [
+              | inl z ↦ subst (λ j. put s.claimed w.next true j ≡ true) z (put-here s.claimed w.next true)
+              | inr z ↦ put-true s.claimed w.next j ((ok.workers k lt).claimed j (omega arith))
+            ])
+            (elim (cases_Bool (s.claimed w.next)) [
+              | inl z ↦ rw z (λ j d less. absurd (omega arith))
+              | inr z ↦ rw z (fr.positions w.next looking.1)
+            ]);
+        fits_is = ap (λ t. t.fits) tally;
+      })
 
   -- after the event of any phase
   event_in_lawful : (p : Phase) → (s.worker k).phase ≡ p → IsLawful f (event_in f k p s)

@@ -1,7 +1,9 @@
 -- What an event that touches only some of a state leaves as it was.
 use Rattle.std.proofs.Common.{◌≡◌, ℕ, ◌+◌, ◌*◌, ◌<◌, true, false, refl, sym, ap, ◌∙◌, arith, subst, inl, inr}
+use Rattle.std.specs.Prelude.{◌==◌}
 use Rattle.std.proofs.lemmas.Bool.{cases_Bool}
 use Rattle.arrival_core.specs.declared.packets.Side.{Side}
+use Rattle.arrival_core.specs.declared.packets.Side.TheVariants.{Left, Right}
 use Rattle.arrival_core.specs.declared.packets.Phase.{Phase}
 use Rattle.arrival_core.specs.declared.packets.Phase.TheVariants.{Looking, Carry, Opened, Second, Collecting, Ended}
 use Rattle.arrival_core.specs.Sums.{bit}
@@ -9,11 +11,11 @@ use Rattle.arrival_core.specs.Frames.{Frame, Below, live_at, other}
 use Rattle.arrival_core.specs.Frames.Below.{leaf, inner}
 use Rattle.arrival_core.specs.States.{Worker, State}
 use Rattle.arrival_core.specs.Events.{same, put}
-use Rattle.arrival_core.specs.Lawful.{IsLawfulPlace, IsLawfulWorker, Carries}
-use Rattle.arrival_core.specs.Counts.{at, over, opened_at, second_at, collecting_at, turn, ready, ready_below, count_opened, count_met, count_collecting, is_out_with}
+use Rattle.arrival_core.specs.Lawful.{IsLawfulNode, IsLawfulSide, IsLawfulPlace, IsLawfulWorker, Fits, Carries}
+use Rattle.arrival_core.specs.Counts.{at, over, opened_at, second_at, collecting_at, turn, ready, ready_below, count_opened, count_met, count_collecting, is_out_with, steps_at, steps_of_side, steps_of_node}
 use Rattle.arrival_core.proofs.PutLaws.{bit-true, eq-true, at-apart}
 use Rattle.arrival_core.proofs.CountLaws.{over_put}
-use Rattle.arrival_core.proofs.PhaseLaws.{at_side, each_worker}
+use Rattle.arrival_core.proofs.PhaseLaws.{at_sides, at_side, each_worker}
 
 -- who is ready stays so where no node is returned
 pub ready_below-same : (s n : State) (b : Below) → n.returned ≡ s.returned → ready_below n b ≡ ready_below s b
@@ -70,6 +72,36 @@ worker-same f s n w h c x = record {
   carries = carries-same f s n w.phase h x.carries;
 }
 
+-- a worker that goes on in another phase, with the batch and the positions that it had
+pub worker-moved : (f : Frame) (s n : State) (v w : Worker) → w.next ≡ v.next → w.pending ≡ v.pending →
+    n.claimed ≡ s.claimed → Fits f w w.phase → Carries f n w.phase → IsLawfulWorker f s v → IsLawfulWorker f n w
+worker-moved f s n v w next_is pending_is claimed fits carries old = record {
+  next = rw next_is old.next;
+  claimed = λ j less. ap (λ g. g j) claimed ∙ old.claimed j (omega (arith, next_is));
+  positions = rw pending_is old.positions;
+  phase = fits;
+  carries = carries;
+}
+
+-- a node with lawful sides is lawful as it was, where none of its bits changes and as many came second and collect at it
+pub node-same : (f : Frame) (s n : State) (t : ℕ) → n.arrived ≡ s.arrived → n.collected ≡ s.collected →
+    n.returned ≡ s.returned → count_met f n t ≡ count_met f s t → count_collecting f n t ≡ count_collecting f s t →
+    IsLawfulSide f n t Left → IsLawfulSide f n t Right → IsLawfulNode f s t → IsLawfulNode f n t
+node-same f s n t arrived collected returned met collecting left right old =
+    let r : n.returned t ≡ s.returned t = ap (λ g. g t) returned in
+    let al : n.arrived t Left ≡ s.arrived t Left = ap (λ g. g t Left) arrived in
+    let ar : n.arrived t Right ≡ s.arrived t Right = ap (λ g. g t Right) arrived in
+    let cl : n.collected t Left ≡ s.collected t Left = ap (λ g. g t Left) collected in
+    let cr : n.collected t Right ≡ s.collected t Right = ap (λ g. g t Right) collected in
+    record {
+      left = left;
+      right = right;
+      met = rw al (rw ar (rw r (omega (arith, met, old.met))));
+      collected = λ li. rw cl (rw cr (rw r (omega (arith, collecting, old.collected li))));
+      rests_returned = λ de. r ∙ old.rests_returned de;
+      rests_uncollected = λ de. rw cl (rw cr (old.rests_uncollected de));
+    }
+
 -- a place that nobody touched is lawful as it was, where no turn at it changed
 pub place-same : (f : Frame) (s n : State) (k : ℕ) (w : Worker) (t : ℕ) (e : Side) → IsLawfulPlace f s t e →
     n.worker ≡ put s.worker k w → k < f.workers → n.place t e ≡ s.place t e → n.collected t e ≡ s.collected t e →
@@ -120,3 +152,18 @@ live_part f s d t e live = elim (cases_Bool (same s d t e)) [
   | inl h ↦ at_side (λ t e. bit (live_at f t e) * at s d t e ≡ at s d t e) s d t e h (rw (bit-true live) (omega arith))
   | inr h ↦ rw (at-apart s d t e h) (omega arith)
 ]
+
+-- one event more at a live side is seen at its node
+pub side_seen : (f : Frame) (s n : State) (i : ℕ) (d : Side) → live_at f i d ≡ true → n.collected ≡ s.collected →
+    n.returned ≡ s.returned →
+    ((t : ℕ) (e : Side) →
+    bit (n.opened t e) + bit (n.arrived t e) ≡ bit (s.opened t e) + bit (s.arrived t e) + at i d t e) → (t : ℕ) →
+    steps_at f n t ≡ steps_at f s t + bit (i == t)
+unfolding steps_at steps_of_side steps_of_node
+side_seen f s n i d live collected returned more t =
+    let left = ap (λ z. bit (live_at f t Left) * z) (more t Left) in
+    let right = ap (λ z. bit (live_at f t Right) * z) (more t Right) in
+    let live_left = live_part f i d t Left live in
+    let live_right = live_part f i d t Right live in
+    let both = at_sides i d t in
+    rw collected (rw returned (omega (arith, left, right, live_left, live_right, both)))

@@ -4,7 +4,6 @@ use Rattle.std.specs.Prelude.{◌==◌, Option, Some, None}
 use Rattle.std.proofs.lemmas.Bool.{cases_eq, cases_Bool}
 use Rattle.arrival_core.specs.declared.packets.Packet.{Packet}
 use Rattle.arrival_core.specs.declared.packets.Side.{Side}
-use Rattle.arrival_core.specs.declared.packets.Side.TheVariants.{Left, Right}
 use Rattle.arrival_core.specs.declared.packets.Load.{Load}
 use Rattle.arrival_core.specs.declared.packets.Phase.TheVariants.{Collecting}
 use Rattle.arrival_core.specs.declared.packets.Place.TheVariants.{Holds}
@@ -15,12 +14,12 @@ use Rattle.arrival_core.specs.Frames.Below.{leaf, inner}
 use Rattle.arrival_core.specs.FrameLaws.{IsFrame}
 use Rattle.arrival_core.specs.States.{Worker, State}
 use Rattle.arrival_core.specs.Events.{same, put, put_side}
-use Rattle.arrival_core.specs.Lawful.{IsLawful, IsLawfulWorker, IsLoad, IsFound, Carries}
-use Rattle.arrival_core.specs.Counts.{at, over, has, times, opened_at, second_at, collecting_at, ready, ready_below, count_opened, count_met, count_collecting}
-use Rattle.arrival_core.proofs.PutLaws.{bit-zero, bit-true, bit-false, eq-true, eq-false, at-here, at-apart, put_bit}
-use Rattle.arrival_core.proofs.CountLaws.{over_put, met_by}
-use Rattle.arrival_core.proofs.PhaseLaws.{Counts, when_collecting, has_is, at_side}
-use Rattle.arrival_core.proofs.KeepLaws.{opened_put, met_put, collecting_put}
+use Rattle.arrival_core.specs.Lawful.{IsLawfulWorker, IsLoad, IsFound, Carries}
+use Rattle.arrival_core.specs.Counts.{at, over, has, times, ready, ready_below, count_opened, count_met, count_collecting}
+use Rattle.arrival_core.proofs.PutLaws.{bit-zero, bit-true, bit-false, bit-same, eq-true, eq-false, at-here, at-apart, put_bit}
+use Rattle.arrival_core.proofs.CountLaws.{IsMetAlone, met_by}
+use Rattle.arrival_core.proofs.PhaseLaws.{when_collecting, at_side}
+use Rattle.arrival_core.proofs.OneStep.{Amounts, Steps, amounts, change}
 
 -- the side above a node, as a number
 unfoldable pub up_at : Option Up → ℕ → Side → ℕ
@@ -29,48 +28,21 @@ up_at (Some u) t e = at u.split u.side t e
 
 -- state n is s after worker k, now w, has left a node: w carries to the side above it, or goes on with what is pending
 pub record Leaves (f : Frame) (s n : State) (k : ℕ) (l : Load) (found : Packet) (w : Worker) : Type 0 where
+  pub step : Steps f s n (record s {
+    returned = put s.returned l.split true;
+    place = put_side s.place l.split (other l.side) (Holds found);
+    worker = put s.worker k w;
+  }) k w
   pub fr : IsFrame f
-  pub ok : IsLawful f s
-  pub lt : k < f.workers
   pub phase : (s.worker k).phase ≡ Collecting l found
-  pub claimed : n.claimed ≡ s.claimed
-  pub opened : n.opened ≡ s.opened
-  pub arrived : n.arrived ≡ s.arrived
-  pub collected : n.collected ≡ s.collected
-  pub returned : n.returned ≡ put s.returned l.split true
-  pub place : n.place ≡ put_side s.place l.split (other l.side) (Holds found)
-  pub worker : n.worker ≡ put s.worker k w
   pub next_is : w.next ≡ (s.worker k).next
-  pub has_w : (t : ℕ) (e : Side) → has f t e w ≡ times f (s.worker k).pending t e + up_at (f.above_node l.split) t e
-  pub opened_w : (t : ℕ) (e : Side) → opened_at w.phase t e ≡ 0
-  pub second_w : (t : ℕ) → second_at w.phase t ≡ 0
-  pub collecting_w : (t : ℕ) → collecting_at w.phase t ≡ 0
+  pub after : (t : ℕ) (e : Side) →
+      Amounts f w t e (times f (s.worker k).pending t e + up_at (f.above_node l.split) t e) 0 0 0
   pub worker_w : IsLawfulWorker f n w
   pub fits_is : w.tally.fits ≡ (s.worker k).tally.fits + 1
-  pub steps_is : w.tally.steps ≡ (s.worker k).tally.steps + 1
 
 module _ {f : Frame} {s n : State} {k : ℕ} {l : Load} {found : Packet} {w : Worker} (x : Leaves f s n k l found w) where
-  open x use {
-    fr,
-    ok,
-    lt,
-    phase,
-    claimed,
-    opened,
-    arrived,
-    collected,
-    returned,
-    place,
-    worker,
-    next_is,
-    has_w,
-    opened_w,
-    second_w,
-    collecting_w,
-    worker_w,
-    fits_is,
-    steps_is,
-  }
+  open x use {step, step.{ok, lt, returned}, fr, phase, after}
 
   -- what the worker has is right
   pub right : IsFound f s l found
@@ -81,40 +53,20 @@ module _ {f : Frame} {s n : State} {k : ℕ} {l : Load} {found : Packet} {w : Wo
   pub load : IsLoad f l
   load = right.own
 
-  -- a number is itself
-  pub one : bit (l.split == l.split) ≡ 1
-  one = bit-true (eq-true l.split l.split refl)
-
   -- it collects at its node, and does nothing else
-  pub before : (t : ℕ) (e : Side) → Counts (s.worker k).phase t e 0 0 0 (bit (l.split == t))
-  before t e = when_collecting (s.worker k).phase l found t e phase
+  pub before : (t : ℕ) (e : Side) →
+      Amounts f (s.worker k) t e (times f (s.worker k).pending t e + 0 + 0) 0 0 (bit (l.split == t))
+  before t e = amounts f (s.worker k) (s.worker k).pending t e _ _ _ _ refl
+      (when_collecting (s.worker k).phase l found t e phase)
 
   -- it alone is behind the second arrival
-  pub alone : (count_met f s l.split ≡ 1) × (bit (s.returned l.split) ≡ 0) × (bit (s.arrived l.split Left) ≡ 1)
-      × (bit (s.arrived l.split Right) ≡ 1)
+  pub alone : IsMetAlone f s l.split
   alone = met_by f s ok l.split l.side load.node k lt
-      (let b = before l.split l.side in omega (arith, b.second_is, b.collecting_is, one))
-
-  -- the other side has arrived
-  pub other_arrived : bit (s.arrived l.split (other l.side)) ≡ 1
-  other_arrived = by_side l.side
-    where
-      by_side : (d : Side) → bit (s.arrived l.split (other d)) ≡ 1
-      by_side Left = alone.3
-      by_side Right = alone.2
+      (let b = before l.split l.side in omega (arith, b.second_is, b.collecting_is, bit-same l.split))
 
   -- the node is not returned
-  pub unreturned : s.returned l.split ≡ false
-  unreturned = bit-zero (s.returned l.split) alone.1
-
-  -- the node is live
-  pub live : f.live_node l.split ≡ true
-  live = elim (cases_Bool (f.live_node l.split)) [
-    | inl h ↦ h
-    | inr h ↦
-        let r = bit-true ((ok.nodes l.split load.node).rests_returned h) in
-        absurd (omega (arith, r, alone.1))
-  ]
+  unreturned : s.returned l.split ≡ false
+  unreturned = bit-zero (s.returned l.split) alone.unreturned
 
   -- the node is returned from now on
   pub returned_now : (t : ℕ) → bit (n.returned t) ≡ bit (s.returned t) + bit (l.split == t)
@@ -158,26 +110,18 @@ module _ {f : Frame} {s n : State} {k : ℕ} {l : Load} {found : Packet} {w : Wo
       ]
 
   module _ (t : ℕ) (e : Side) where
+    -- the node's own child is had from now on
     pub had : over f n (has f t e) ≡ over f s (has f t e) + up_at (f.above_node l.split) t e
-    had =
-        let change = over_put f s n k w (has f t e) lt worker in
-        let a = has_is f (s.worker k) t e _ _ _ _ (before t e) in
-        omega (arith, change, a, has_w t e)
+    had = omega (arith, (change step (before t e) (after t e)).had)
 
+    -- as many are behind an opening as before
     pub count_now : count_opened f n t e ≡ count_opened f s t e
-    count_now =
-        let change = opened_put f s n k w t e lt worker in
-        let b = before t e in
-        omega (arith, change, b.opened_is, opened_w t e)
+    count_now = omega (arith, (change step (before t e) (after t e)).opened)
 
+    -- one less is behind a second arrival
     pub met_now : count_met f n t + bit (l.split == t) ≡ count_met f s t
-    met_now =
-        let change = met_put f s n k w t lt worker in
-        let b = before t e in
-        omega (arith, change, b.second_is, second_w t, b.collecting_is, collecting_w t)
+    met_now = omega (arith, (change step (before t e) (after t e)).met)
 
+    -- and one less collects
     pub collecting_now : count_collecting f n t + bit (l.split == t) ≡ count_collecting f s t
-    collecting_now =
-        let change = collecting_put f s n k w t lt worker in
-        let b = before t e in
-        omega (arith, change, b.collecting_is, collecting_w t)
+    collecting_now = omega (arith, (change step (before t e) (after t e)).collecting)

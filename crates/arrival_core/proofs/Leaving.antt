@@ -13,34 +13,16 @@ use Rattle.arrival_core.specs.States.{Worker, State}
 use Rattle.arrival_core.specs.Events.{same}
 use Rattle.arrival_core.specs.Lawful.{IsLawful, IsLawfulNode, IsLawfulSide, IsLawfulPlace, IsLawfulWorker}
 use Rattle.arrival_core.specs.Counts.{opened_at, collecting_at, turn, is_nothing, is_out_with, steps_at, steps_of_side, steps_of_node}
-use Rattle.arrival_core.proofs.PutLaws.{bit-true, bit-false, eq-false, same-refl, put-true, side_apart, put_side-same, put_side-apart}
-use Rattle.arrival_core.proofs.CountLaws.{over_put, opened_mine, met_two, side_of, arrived_alone}
+use Rattle.arrival_core.proofs.PutLaws.{bit-true, bit-false, bit-same, eq-false, same-refl, put-true, side_apart, put_side-same, put_side-apart}
+use Rattle.arrival_core.proofs.CountLaws.{opened_mine, met_two, side_of, arrived_alone}
 use Rattle.arrival_core.proofs.PhaseLaws.{at_side, sum_more, each_worker, unclaimed-same}
-use Rattle.arrival_core.proofs.KeepLaws.{worker-same, place-same, tally_put}
-use Rattle.arrival_core.proofs.LeaveCounts.{Leaves, right, load, one, before, alone, other_arrived, live, returned_now, up_none, ready_now, had, count_now, met_now, collecting_now}
+use Rattle.arrival_core.proofs.KeepLaws.{worker-same, place-same}
+use Rattle.arrival_core.proofs.OneStep.{step_at, step_lawful}
+use Rattle.arrival_core.proofs.LeaveCounts.{Leaves, right, load, before, alone, returned_now, up_none, ready_now, had, count_now, met_now, collecting_now}
 
 module _ {f : Frame} {s n : State} {k : ℕ} {l : Load} {found : Packet} {w : Worker} (x : Leaves f s n k l found w) where
-  open x use {
-    fr,
-    ok,
-    lt,
-    phase,
-    claimed,
-    opened,
-    arrived,
-    collected,
-    returned,
-    place,
-    worker,
-    next_is,
-    has_w,
-    opened_w,
-    second_w,
-    collecting_w,
-    worker_w,
-    fits_is,
-    steps_is,
-  }
+  open x use {step, step.{ok, lt, claimed, opened, arrived, collected, returned, place, worker}}
+  open x use {next_is, after, worker_w, fits_is}
 
   -- the place that is given back is out with nobody
   out_here : (j : ℕ) → j < f.workers → is_out_with j (Holds found)
@@ -49,15 +31,13 @@ module _ {f : Frame} {s n : State} {k : ℕ} {l : Load} {found : Packet} {w : Wo
   out_here = each_worker f s n k w
       (λ j v. 0 ≡ opened_at v.phase l.split (other l.side)
       + collecting_at v.phase l.split * bit (n.collected l.split (other l.side))) worker
-      (let a = opened_w l.split (other l.side) in
-      let b = collecting_w l.split in
-      rw b (omega (arith, a)))
+      (let a = after l.split (other l.side) in rw a.collecting_is (omega (arith, a.opened_is)))
       (λ j lj ne.
       let a = opened_mine f s j l.split (other l.side) lj in
-      let quiet = (arrived_alone f s ok l.split (other l.side) (load x).node (other_arrived x)).1 in
+      let quiet = (arrived_alone f s ok l.split (other l.side) (load x).node ((alone x).arrived (other l.side))).1 in
       let two = met_two f s j k l.split lj lt (λ z. ne (sym z)) in
       let mine = (before x l.split l.side).collecting_is in
-      let zero : collecting_at (s.worker j).phase l.split ≡ 0 = omega (arith, two, mine, (one x), (alone x).0) in
+      let zero : collecting_at (s.worker j).phase l.split ≡ 0 = omega (arith, two, mine, bit-same l.split, (alone x).alone) in
       rw zero (omega (arith, a, quiet)))
 
   -- that place is lawful
@@ -69,7 +49,7 @@ module _ {f : Frame} {s n : State} {k : ℕ} {l : Load} {found : Packet} {w : Wo
       (same-refl l.split (other l.side)) in
       let o : bit (n.opened l.split (other l.side)) ≡ bit (s.opened l.split (other l.side))
       = ap (λ g. bit (g l.split (other l.side))) opened in
-      let on = (arrived_alone f s ok l.split (other l.side) (load x).node (other_arrived x)).0 in
+      let on = (arrived_alone f s ok l.split (other l.side) (load x).node ((alone x).arrived (other l.side))).0 in
       let theirs = (right x).theirs in
       record {
         nothing = rw at_it (omega (arith, o, on));
@@ -85,6 +65,7 @@ module _ {f : Frame} {s n : State} {k : ℕ} {l : Load} {found : Packet} {w : Wo
     | inl h ↦ at_side (IsLawfulPlace f n) l.split (other l.side) t e h place_here
     | inr h ↦
         let b = before x t e in
+        let a = after t e in
         let zero : bit (l.split == t) * bit (s.collected t e) ≡ 0 = elim (cases_eq l.split t) [
           | inl z ↦
               let h2 : same l.split (other l.side) l.split e ≡ false
@@ -99,7 +80,7 @@ module _ {f : Frame} {s n : State} {k : ℕ} {l : Load} {found : Packet} {w : Wo
         (ap (λ g. g t e) place ∙ put_side-apart s.place l.split (other l.side) (Holds found) t e h)
         (ap (λ g. g t e) collected)
         (ap (λ g. g t e) opened)
-        (rw (opened_w t e) (rw b.opened_is (rw (collecting_w t) (rw b.collecting_is (omega (arith, zero))))))
+        (rw a.opened_is (rw b.opened_is (rw a.collecting_is (rw b.collecting_is (omega (arith, zero))))))
   ]
 
   -- every side is
@@ -121,7 +102,7 @@ module _ {f : Frame} {s n : State} {k : ℕ} {l : Load} {found : Packet} {w : Wo
         rests_alone = λ de.
             let none = up_none x t e (λ z.
             let dead : f.live_node l.split ≡ false = rw z at de in
-            let on = bit-true (live x) in
+            let on = bit-true (alone x).live in
             let off = bit-false dead in
             omega (arith, on, off)) in
             omega (arith, h, none, old.rests_alone de);
@@ -153,15 +134,15 @@ module _ {f : Frame} {s n : State} {k : ℕ} {l : Load} {found : Packet} {w : Wo
   worker_after = each_worker f s n k w (λ j v. IsLawfulWorker f n v) worker worker_w
       (λ j lj ne. worker-same f s n (s.worker j) collected claimed (ok.workers j lj))
 
-  -- only a (live x) node is left
+  -- only a live node is left
   live_here : (t : ℕ) → bit (f.live_node t) * bit (l.split == t) ≡ bit (l.split == t)
   live_here t = elim (cases_eq l.split t) [
     | inl z ↦ subst (λ t. bit (f.live_node t) * bit (l.split == t) ≡ bit (l.split == t)) z
-        (rw (bit-true (live x)) (omega arith))
+        (rw (bit-true (alone x).live) (omega arith))
     | inr z ↦ rw (bit-false (eq-false l.split t z)) (omega arith)
   ]
 
-  -- (one x) event more is seen at its node
+  -- one event more is seen at its node
   steps_more : (t : ℕ) → t < f.nodes → steps_at f n t ≡ steps_at f s t + bit (l.split == t)
   unfolding steps_at steps_of_side steps_of_node
   steps_more t lt_t =
@@ -169,7 +150,7 @@ module _ {f : Frame} {s n : State} {k : ℕ} {l : Load} {found : Packet} {w : Wo
       let liv = live_here t in
       rw opened (rw arrived (rw collected (rw r (omega (arith, liv)))))
 
-  -- and (one x) fit more
+  -- and one fit more
   fits_more : (t : ℕ) → t < f.nodes →
       bit (f.live_node t) * bit (n.returned t) ≡ bit (f.live_node t) * bit (s.returned t) + bit (l.split == t)
   fits_more t lt_t =
@@ -180,15 +161,7 @@ module _ {f : Frame} {s n : State} {k : ℕ} {l : Load} {found : Packet} {w : Wo
   -- a leave leads to a lawful state
   pub leaving_lawful : IsLawful f n
   leaving_lawful =
-      let fits = over_put f s n k w (λ v. v.tally.fits) lt worker in
       let fit = sum_more f.nodes l.split (λ t. bit (f.live_node t) * bit (n.returned t))
       (λ t. bit (f.live_node t) * bit (s.returned t)) (load x).node fits_more in
-      let steps = tally_put f s n k w lt worker steps_is in
-      let nexts = over_put f s n k w (λ v. v.next) lt worker in
-      let more = sum_more f.nodes l.split (steps_at f n) (steps_at f s) (load x).node steps_more in
-      record {
-        nodes = node_after;
-        workers = worker_after;
-        fits = omega (arith, fits, fits_is, ok.fits, fit);
-        steps = omega (arith, steps, nexts, next_is, more, ok.steps);
-      }
+      step_lawful step node_after worker_after (omega (arith, fits_is, fit))
+      (step_at step l.split (load x).node steps_more next_is)

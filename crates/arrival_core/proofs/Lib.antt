@@ -4,6 +4,7 @@ pub mod PlaceCounts
 pub mod CountLaws
 pub mod PhaseLaws
 pub mod KeepLaws
+pub mod OneStep
 pub mod OpenCounts
 pub mod Opening
 pub mod ArriveCounts

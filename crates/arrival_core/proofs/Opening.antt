@@ -6,36 +6,22 @@ use Rattle.arrival_core.specs.declared.packets.Side.{Side}
 use Rattle.arrival_core.specs.declared.packets.Side.TheVariants.{Left, Right}
 use Rattle.arrival_core.specs.declared.packets.Load.{Load}
 use Rattle.arrival_core.specs.declared.packets.Place.TheVariants.{Out}
-use Rattle.arrival_core.specs.Sums.{bit, sum_below}
+use Rattle.arrival_core.specs.Sums.{bit}
 use Rattle.arrival_core.specs.Frames.{Frame}
 use Rattle.arrival_core.specs.States.{Worker, State}
 use Rattle.arrival_core.specs.Events.{same}
 use Rattle.arrival_core.specs.Lawful.{IsLawful, IsLawfulNode, IsLawfulSide, IsLawfulPlace, IsLawfulWorker, Fits, Carries}
-use Rattle.arrival_core.specs.Counts.{opened_at, collecting_at, turn, is_nothing, is_out_with, steps_at, steps_of_side, steps_of_node}
+use Rattle.arrival_core.specs.Counts.{opened_at, collecting_at, turn, is_nothing, is_out_with}
 use Rattle.arrival_core.proofs.PutLaws.{bit-true, bit-false, eq-true, eq-false, same-refl, at-here, at-apart, put_side-same, put_side-apart, put_side-true}
-use Rattle.arrival_core.proofs.CountLaws.{over_put, opened_mine, met_mine, side_of, not_met}
-use Rattle.arrival_core.proofs.PhaseLaws.{at_sides, at_side, sum_more, each_worker, unclaimed-same}
-use Rattle.arrival_core.proofs.KeepLaws.{ready-same, worker-same, place-same, tally_put, live_part}
+use Rattle.arrival_core.proofs.CountLaws.{opened_mine, met_mine, side_of, not_met}
+use Rattle.arrival_core.proofs.PhaseLaws.{at_side, each_worker, unclaimed-same}
+use Rattle.arrival_core.proofs.KeepLaws.{ready-same, worker-same, worker-moved, node-same, place-same, side_seen}
+use Rattle.arrival_core.proofs.OneStep.{fits-same, step_at, step_lawful}
 use Rattle.arrival_core.proofs.OpenCounts.{Opens, load, off, live, before, after, had, opened_now, count_now, met_now, collecting_now}
 
 module _ {f : Frame} {s n : State} {k : ℕ} {l : Load} {w : Worker} (x : Opens f s n k l w) where
-  open x use {
-    ok,
-    lt,
-    phase,
-    claimed,
-    opened,
-    arrived,
-    collected,
-    returned,
-    place,
-    worker,
-    next_is,
-    pending_is,
-    phase_is,
-    fits_is,
-    steps_is,
-  }
+  open x use {step, step.{ok, lt, claimed, opened, arrived, collected, returned, place, worker}}
+  open x use {next_is, pending_is, phase_is, fits_is}
 
   -- the place that is taken out is out with the worker alone
   out_here : (j : ℕ) → j < f.workers →
@@ -110,23 +96,8 @@ module _ {f : Frame} {s n : State} {k : ℕ} {l : Load} {w : Worker} (x : Opens 
 
   -- every node is
   node_after : (t : ℕ) → t < f.nodes → IsLawfulNode f n t
-  node_after t lt_t =
-      let old = ok.nodes t lt_t in
-      let m = met_now x t Left in
-      let c = collecting_now x t Left in
-      let r : n.returned t ≡ s.returned t = ap (λ g. g t) returned in
-      let al : n.arrived t Left ≡ s.arrived t Left = ap (λ g. g t Left) arrived in
-      let ar : n.arrived t Right ≡ s.arrived t Right = ap (λ g. g t Right) arrived in
-      let cl : n.collected t Left ≡ s.collected t Left = ap (λ g. g t Left) collected in
-      let cr : n.collected t Right ≡ s.collected t Right = ap (λ g. g t Right) collected in
-      record {
-        left = side_after t Left lt_t;
-        right = side_after t Right lt_t;
-        met = rw al (rw ar (rw r (omega (arith, m, old.met))));
-        collected = λ li. rw cl (rw cr (rw r (omega (arith, c, old.collected li))));
-        rests_returned = λ de. r ∙ old.rests_returned de;
-        rests_uncollected = λ de. rw cl (rw cr (old.rests_uncollected de));
-      }
+  node_after t lt_t = node-same f s n t arrived collected returned (met_now x t Left) (collecting_now x t Left)
+      (side_after t Left lt_t) (side_after t Right lt_t) (ok.nodes t lt_t)
 
   -- the phase fits the worker
   phase_fits : Fits f w w.phase
@@ -141,37 +112,12 @@ module _ {f : Frame} {s n : State} {k : ℕ} {l : Load} {w : Worker} (x : Opens 
   -- every worker is lawful
   worker_after : (j : ℕ) → j < f.workers → IsLawfulWorker f n (n.worker j)
   worker_after = each_worker f s n k w (λ j v. IsLawfulWorker f n v) worker
-      (let old = ok.workers k lt in record {
-        next = rw next_is old.next;
-        claimed = λ j less. ap (λ g. g j) claimed ∙ old.claimed j (omega (arith, next_is));
-        positions = rw pending_is old.positions;
-        phase = phase_fits;
-        carries = phase_carries;
-      })
+      (worker-moved f s n (s.worker k) w next_is pending_is claimed phase_fits phase_carries (ok.workers k lt))
       (λ j lj ne. worker-same f s n (s.worker j) collected claimed (ok.workers j lj))
-
-  -- one event more is seen at its node
-  steps_more : (t : ℕ) → t < f.nodes → steps_at f n t ≡ steps_at f s t + bit (l.split == t)
-  unfolding steps_at steps_of_side steps_of_node
-  steps_more t lt_t =
-      let ol = opened_now x t Left in
-      let or = opened_now x t Right in
-      let ll = live_part f l.split l.side t Left (live x) in
-      let lr = live_part f l.split l.side t Right (live x) in
-      let both = at_sides l.split l.side t in
-      rw arrived (rw collected (rw returned (rw ol (rw or (omega (arith, ll, lr, both))))))
 
   -- an open leads to a lawful state
   pub opening_lawful : IsLawful f n
-  opening_lawful =
-      let fits = over_put f s n k w (λ v. v.tally.fits) lt worker in
-      let same_fits = ap (λ g. sum_below f.nodes (λ t. bit (f.live_node t) * bit (g t))) returned in
-      let steps = tally_put f s n k w lt worker steps_is in
-      let nexts = over_put f s n k w (λ v. v.next) lt worker in
-      let more = sum_more f.nodes l.split (steps_at f n) (steps_at f s) (load x).node steps_more in
-      record {
-        nodes = node_after;
-        workers = worker_after;
-        fits = omega (arith, fits, fits_is, ok.fits, same_fits);
-        steps = omega (arith, steps, nexts, next_is, more, ok.steps);
-      }
+  opening_lawful = step_lawful step node_after worker_after (fits-same step returned fits_is)
+      (step_at step l.split (load x).node
+      (λ t lt_t. side_seen f s n l.split l.side (live x) collected returned (λ t e.
+      let a = ap (λ g. bit (g t e)) arrived in omega (arith, opened_now x t e, a)) t) next_is)

@@ -45,6 +45,10 @@ eq-true a b e = eq-eqb a b e
 pub eq-false : (a b : ℕ) → a ≢ b → (a == b) ≡ false
 eq-false a b ne = ne_eqb a b ne
 
+-- a number is itself
+pub bit-same : (a : ℕ) → bit (a == a) ≡ 1
+bit-same a = bit-true (eq-true a a refl)
+
 -- sides that are one
 same_side-true : (d e : Side) → same_side d e ≡ true → d ≡ e
 same_side-true Left Left h = refl

@@ -1,5 +1,5 @@
 -- No tally comes near its bound, and what a lawful state says of a worker's next event.
-use Rattle.std.proofs.Common.{◌≡◌, ℕ, ◌+◌, ◌*◌, ◌<◌, ◌≤◌, Bool, true, false, ap, arith, subst}
+use Rattle.std.proofs.Common.{◌≡◌, ℕ, ◌+◌, ◌*◌, ◌<◌, ◌≤◌, Bool, true, false, sym, ap, ◌∙◌, arith, subst, List}
 use Rattle.arrival_core.specs.declared.packets.Packet.{Packet}
 use Rattle.arrival_core.specs.declared.packets.Side.TheVariants.{Left, Right}
 use Rattle.arrival_core.specs.declared.packets.Load.{Load}
@@ -18,7 +18,9 @@ use Rattle.std.specs.Prelude.{◌^◌, length}
 use Rattle.std.proofs.Math.Nat.{mul-le-mul}
 use Rattle.arrival_core.specs.declared.packets.TheConstants.{MOST_WORKERS}
 use Rattle.arrival_core.specs.Settings.{frame_of, batch_count}
-use Rattle.arrival_core.specs.Forks.{climber_at, MayStep}
+use Rattle.arrival_core.specs.Forks.{climber_at, shown, MayStep}
+use Rattle.arrival_core.specs.declared.forks.Climber.{Climber}
+use Rattle.arrival_core.specs.declared.forks.Fork.{Fork}
 use Rattle.arrival_core.specs.Cores.{Core, IsCore, frame_of_core}
 use Rattle.arrival_core.proofs.SumLaws.{sum_of_same}
 use Rattle.arrival_core.proofs.TerrainLaws.{rising_short}
@@ -69,32 +71,27 @@ module _ (f : Frame) (s : State) (ok : IsLawful f s) (k : ℕ) (lt : k < f.worke
       let most = sum_le f.workers (λ i. (s.worker i).next) (λ i. f.batches) (λ i l. (ok.workers i l).next) in
       omega (arith, most, sum_of_same f.workers f.batches)
 
-  -- the steps of a worker stay below their type
-  pub steps_small : f.workers ≤ MOST_WORKERS → f.batches ≤ 2 ^ 20 → f.nodes ≤ 2 ^ 20 → (s.worker k).tally.steps + 1 <
-      2 ^ 64
-  steps_small few short low =
-      let mine = over_has_one f s k (λ w. w.tally.steps) lt in
-      let product : f.workers * f.batches ≤ MOST_WORKERS * 2 ^ 20 = mul-le-mul few short in
-      omega (arith, mine, ok.steps, nexts, all_steps, product)
-
-  -- and its fits
-  pub fits_small : f.nodes ≤ 2 ^ 20 → (s.worker k).tally.fits + 1 < 2 ^ 64
-  fits_small low =
-      let mine = over_has_one f s k (λ w. w.tally.fits) lt in
-      omega (arith, mine, ok.fits, all_fits)
-
-  -- the steps stay below 2 ^ 32
+  -- the steps of a worker stay below 2 ^ 32
   pub steps_low : f.workers ≤ MOST_WORKERS → f.batches ≤ 2 ^ 20 → f.nodes ≤ 2 ^ 20 → (s.worker k).tally.steps < 2 ^ 32
   steps_low few short low =
       let mine = over_has_one f s k (λ w. w.tally.steps) lt in
       let product : f.workers * f.batches ≤ MOST_WORKERS * 2 ^ 20 = mul-le-mul few short in
       omega (arith, mine, ok.steps, nexts, all_steps, product)
 
-  -- and the fits
+  -- and its fits
   pub fits_low : f.nodes ≤ 2 ^ 20 → (s.worker k).tally.fits < 2 ^ 32
   fits_low low =
       let mine = over_has_one f s k (λ w. w.tally.fits) lt in
       omega (arith, mine, ok.fits, all_fits)
+
+  -- so one more stays below their type
+  pub steps_small : f.workers ≤ MOST_WORKERS → f.batches ≤ 2 ^ 20 → f.nodes ≤ 2 ^ 20 →
+      (s.worker k).tally.steps + 1 < 2 ^ 64
+  steps_small few short low = omega (arith, steps_low few short low)
+
+  -- and one more fit
+  pub fits_small : f.nodes ≤ 2 ^ 20 → (s.worker k).tally.fits + 1 < 2 ^ 64
+  fits_small low = omega (arith, fits_low low)
 
   -- what its phase says
   pub next_small : (s.worker k).phase ≡ Looking → (s.worker k).next < f.batches
@@ -121,10 +118,17 @@ module _ (f : Frame) (s : State) (ok : IsLawful f s) (k : ℕ) (lt : k < f.worke
   unfolding Carries
   collecting_node l found h = (subst (Carries f s) h (ok.workers k lt).carries).own.node
 
--- the event of a worker in that phase
-pub event_of : (f : Frame) (k : ℕ) (s : State) (p : Phase) → (s.worker k).phase ≡ p → event f k s ≡ event_in f k p s
+-- a climber that was read is in the phase that it was read in
+phase_read : {x y : Climber} {p : Phase} → x ≡ y → x.phase ≡ p → y.phase ≡ p
+phase_read e h = ap (λ z. z.phase) (sym e) ∙ h
+
+-- the event of a worker whose climber was read in a phase leads to the state that the event of the phase leads to
+pub event_read : (f : Frame) (k : ℕ) (live : List ℕ) (claimed : List Bool) (forks : List Fork) (climbers : List Climber)
+    (x : Climber) (p : Phase) (n : State) → x ≡ climber_at climbers k → x.phase ≡ p →
+    n ≡ event_in f k p (shown live claimed forks climbers) → n ≡ event f k (shown live claimed forks climbers)
 unfolding event
-event_of f k s p h = ap (λ q. event_in f k q s) h
+event_read f k live claimed forks climbers x p n e h led =
+    led ∙ sym (ap (λ q. event_in f k q (shown live claimed forks climbers)) (phase_read e h))
 
 -- the same, of lists that hold a lawful state
 module _ {c : Core} (ok : IsCore c) (k : ℕ) (lt : k < length c.climbers) where
@@ -145,28 +149,32 @@ module _ {c : Core} (ok : IsCore c) (k : ℕ) (lt : k < length c.climbers) where
       }
 
   -- a worker that looks has a batch before it
-  pub next_below : (climber_at c.climbers k).phase ≡ Looking →
+  pub next_below : {x : Climber} → x ≡ climber_at c.climbers k → x.phase ≡ Looking →
       (climber_at c.climbers k).next < batch_count c.live
   unfolding frame_of
-  next_below h = next_small _ _ ok.lawful k one_of h
+  next_below e h = next_small _ _ ok.lawful k one_of (phase_read e h)
 
   -- a worker carries to a node
-  pub carry_below : (l : Load) → (climber_at c.climbers k).phase ≡ Carry l → l.split < length c.forks
-  unfolding frame_of
-  carry_below l h = omega (arith, carry_node _ _ ok.lawful k one_of l h, ok.nodes)
-
-  -- it opens at one
-  pub opened_below : (l : Load) → (climber_at c.climbers k).phase ≡ Opened l → l.split < length c.forks
-  unfolding frame_of
-  opened_below l h = omega (arith, opened_node _ _ ok.lawful k one_of l h, ok.nodes)
-
-  -- it is second at one
-  pub second_below : (l : Load) → (climber_at c.climbers k).phase ≡ Second l → l.split < length c.forks
-  unfolding frame_of
-  second_below l h = omega (arith, second_node _ _ ok.lawful k one_of l h, ok.nodes)
-
-  -- it collects at one
-  pub collecting_below : (l : Load) (found : Packet) → (climber_at c.climbers k).phase ≡ Collecting l found →
+  pub carry_below : {x : Climber} → x ≡ climber_at c.climbers k → (l : Load) → x.phase ≡ Carry l →
       l.split < length c.forks
   unfolding frame_of
-  collecting_below l found h = omega (arith, collecting_node _ _ ok.lawful k one_of l found h, ok.nodes)
+  carry_below e l h = omega (arith, carry_node _ _ ok.lawful k one_of l (phase_read e h), ok.nodes)
+
+  -- it opens at one
+  pub opened_below : {x : Climber} → x ≡ climber_at c.climbers k → (l : Load) → x.phase ≡ Opened l →
+      l.split < length c.forks
+  unfolding frame_of
+  opened_below e l h = omega (arith, opened_node _ _ ok.lawful k one_of l (phase_read e h), ok.nodes)
+
+  -- it is second at one
+  pub second_below : {x : Climber} → x ≡ climber_at c.climbers k → (l : Load) → x.phase ≡ Second l →
+      l.split < length c.forks
+  unfolding frame_of
+  second_below e l h = omega (arith, second_node _ _ ok.lawful k one_of l (phase_read e h), ok.nodes)
+
+  -- it collects at one
+  pub collecting_below : {x : Climber} → x ≡ climber_at c.climbers k → (l : Load) (found : Packet) →
+      x.phase ≡ Collecting l found → l.split < length c.forks
+  unfolding frame_of
+  collecting_below e l found h =
+      omega (arith, collecting_node _ _ ok.lawful k one_of l found (phase_read e h), ok.nodes)

@@ -12,54 +12,44 @@ use Rattle.arrival_core.specs.FrameLaws.{IsFrame}
 use Rattle.arrival_core.specs.States.{Worker, State}
 use Rattle.arrival_core.specs.Events.{put}
 use Rattle.arrival_core.specs.Lawful.{IsLawful, IsLawfulNode, IsLawfulSide, IsLawfulWorker, Fits}
-use Rattle.arrival_core.specs.Counts.{over, has, times, opened_at, second_at, collecting_at, turn, unclaimed, count_opened, count_met, count_collecting, steps_at, steps_of_side, steps_of_node}
+use Rattle.arrival_core.specs.Counts.{times, turn, unclaimed, steps_at, steps_of_side, steps_of_node}
 use Rattle.arrival_core.proofs.SumLaws.{sum_same, sum_change, term_le_sum}
 use Rattle.arrival_core.proofs.PutLaws.{bit-false, put-here, put-other, put-true}
-use Rattle.arrival_core.proofs.CountLaws.{over_put, side_of}
-use Rattle.arrival_core.proofs.PhaseLaws.{Counts, when_looking, has_is, each_worker}
-use Rattle.arrival_core.proofs.KeepLaws.{ready-same, carries-same, place-same, tally_put, opened_put, met_put, collecting_put}
+use Rattle.arrival_core.proofs.CountLaws.{side_of}
+use Rattle.arrival_core.proofs.PhaseLaws.{when_looking, each_worker}
+use Rattle.arrival_core.proofs.KeepLaws.{ready-same, carries-same, node-same, place-same}
+use Rattle.arrival_core.proofs.OneStep.{Amounts, Steps, Change, amounts, change, fits-same, step_lawful}
 
--- w is the worker after, with the positions ps that it took
-module _ (f : Frame) (fr : IsFrame f) (s n : State) (k : ℕ) (ps : List ℕ) (w : Worker) (ok : IsLawful f s)
-    (lt : k < f.workers)
-    (phase : (s.worker k).phase ≡ Looking)
-    (claimed : n.claimed ≡ put s.claimed (s.worker k).next true)
-    (opened : n.opened ≡ s.opened)
-    (arrived : n.arrived ≡ s.arrived)
-    (collected : n.collected ≡ s.collected)
-    (returned : n.returned ≡ s.returned)
-    (place : n.place ≡ s.place)
-    (worker : n.worker ≡ put s.worker k w)
-    (ps_is : ps ≡ (if s.claimed (s.worker k).next then [] else f.batch (s.worker k).next))
-    (next_is : w.next ≡ (s.worker k).next + 1)
-    (has_w : (t : ℕ) (e : Side) → has f t e w ≡ times f ps t e)
-    (opened_w : (t : ℕ) (e : Side) → opened_at w.phase t e ≡ 0)
-    (second_w : (t : ℕ) → second_at w.phase t ≡ 0)
-    (collecting_w : (t : ℕ) → collecting_at w.phase t ≡ 0)
-    (worker_w : IsLawfulWorker f n w)
-    (fits_is : w.tally.fits ≡ (s.worker k).tally.fits)
-    (steps_is : w.tally.steps ≡ (s.worker k).tally.steps + 1) where
+-- state n is s after worker k, now w, has taken a batch, with the positions ps that were not claimed
+pub record Takes (f : Frame) (s n : State) (k : ℕ) (ps : List ℕ) (w : Worker) : Type 0 where
+  pub step : Steps f s n (record s { claimed = put s.claimed (s.worker k).next true; worker = put s.worker k w }) k w
+  pub fr : IsFrame f
+  pub phase : (s.worker k).phase ≡ Looking
+  pub ps_is : ps ≡ (if s.claimed (s.worker k).next then [] else f.batch (s.worker k).next)
+  pub next_is : w.next ≡ (s.worker k).next + 1
+  pub after : (t : ℕ) (e : Side) → Amounts f w t e (times f ps t e) 0 0 0
+  pub worker_w : IsLawfulWorker f n w
+  pub fits_is : w.tally.fits ≡ (s.worker k).tally.fits
+
+module _ {f : Frame} {s n : State} {k : ℕ} {ps : List ℕ} {w : Worker} (x : Takes f s n k ps w) where
+  open x use {step, step.{ok, lt, claimed, opened, arrived, collected, returned, place, worker}}
+  open x use {fr, phase, ps_is, next_is, after, worker_w, fits_is}
+
   -- the worker has nothing pending and a batch before it
   looking : ((s.worker k).pending ≡ []) × ((s.worker k).next < f.batches)
   unfolding Fits
   looking = subst (Fits f (s.worker k)) phase (ok.workers k lt).phase
 
-  -- that batch
-  j : ℕ
-  j = (s.worker k).next
-
-  -- it counts for nothing
-  before : (t : ℕ) (e : Side) → Counts (s.worker k).phase t e 0 0 0 0
-  before t e = when_looking (s.worker k).phase t e phase
-
-  -- nothing is pending before
-  none_pending : (t : ℕ) (e : Side) → times f (s.worker k).pending t e ≡ 0
+  -- it has nothing, and counts for nothing
+  before : (t : ℕ) (e : Side) → Amounts f (s.worker k) t e 0 0 0 0
   unfolding times
-  none_pending t e = rw looking.0 refl
+  before t e =
+      let none = amounts f (s.worker k) [] t e _ _ _ _ looking.0 (when_looking (s.worker k).phase t e phase) in
+      record none { had_is = none.had_is ∙ omega arith }
 
   -- what it took was in a batch that nobody had claimed
   unclaimed_now : (t : ℕ) (e : Side) → unclaimed f n t e + times f ps t e ≡ unclaimed f s t e
-  unfolding unclaimed times j
+  unfolding unclaimed times
   unclaimed_now t e = rw claimed (elim (cases_Bool (s.claimed (s.worker k).next)) [
     | inl h ↦
         let same_sum : sum_below f.batches
@@ -108,73 +98,39 @@ module _ (f : Frame) (fr : IsFrame f) (s n : State) (k : ℕ) (ps : List ℕ) (w
           fr.batched_leaf t e p lt_t h ∙ bit-false off
       by_child (inner i) h = fr.batched_inner t e i lt_t h
 
-  module _ (t : ℕ) (e : Side) where
-    had : over f n (has f t e) ≡ over f s (has f t e) + times f ps t e
-    had =
-        let change = over_put f s n k w (has f t e) lt worker in
-        let a = has_is f (s.worker k) t e _ _ _ _ (before t e) in
-        omega (arith, change, a, none_pending t e, has_w t e)
-
-    count_now : count_opened f n t e ≡ count_opened f s t e
-    count_now =
-        let change = opened_put f s n k w t e lt worker in
-        let b = before t e in
-        omega (arith, change, b.opened_is, opened_w t e)
-
-    met_now : count_met f n t ≡ count_met f s t
-    met_now =
-        let change = met_put f s n k w t lt worker in
-        let b = before t e in
-        omega (arith, change, b.second_is, second_w t, b.collecting_is, collecting_w t)
-
-    collecting_now : count_collecting f n t ≡ count_collecting f s t
-    collecting_now =
-        let change = collecting_put f s n k w t lt worker in
-        let b = before t e in
-        omega (arith, change, b.collecting_is, collecting_w t)
+  -- what changes at a side
+  now : (t : ℕ) (e : Side) → Change f s n t e 0 0 0 0 (times f ps t e) 0 0 0
+  now t e = change step (before t e) (after t e)
 
   -- every side is lawful
   side_after : (t : ℕ) (e : Side) → t < f.nodes → IsLawfulSide f n t e
   unfolding turn
   side_after t e lt_t =
       let old = side_of f s ok t e lt_t in
-      let h = had t e in
+      let c = now t e in
       let u = unclaimed_now t e in
       let r : bit (n.arrived t e) ≡ bit (s.arrived t e) = ap (λ g. bit (g t e)) arrived in
       let y = ready-same f s n t e returned in
       let o : bit (n.opened t e) ≡ bit (s.opened t e) = ap (λ g. bit (g t e)) opened in
-      let c = count_now t e in
       let b = before t e in
+      let a = after t e in
       record {
-        once = λ li. omega (arith, h, u, r, y, old.once li);
-        opened = λ li. omega (arith, o, c, r, old.opened li);
+        once = λ li. omega (arith, c.had, u, r, y, old.once li);
+        opened = λ li. omega (arith, o, c.opened, r, old.opened li);
         rests_opened = λ de. ap (λ g. g t e) opened ∙ old.rests_opened de;
         rests_arrived = λ de. ap (λ g. g t e) arrived ∙ old.rests_arrived de;
-        rests_alone = λ de. omega (arith, h, took_live t e lt_t de, old.rests_alone de);
+        rests_alone = λ de. omega (arith, c.had, took_live t e lt_t de, old.rests_alone de);
         place = place-same f s n k w t e old.place worker lt (ap (λ g. g t e) place) (ap (λ g. g t e) collected)
             (ap (λ g. g t e) opened)
-            (rw (opened_w t e) (rw b.opened_is (rw (collecting_w t) (rw b.collecting_is refl))));
+            (rw a.opened_is (rw b.opened_is (rw a.collecting_is (rw b.collecting_is refl))));
       }
 
   -- every node is
   node_after : (t : ℕ) → t < f.nodes → IsLawfulNode f n t
   node_after t lt_t =
-      let old = ok.nodes t lt_t in
-      let m = met_now t Left in
-      let c = collecting_now t Left in
-      let r : n.returned t ≡ s.returned t = ap (λ g. g t) returned in
-      let al : n.arrived t Left ≡ s.arrived t Left = ap (λ g. g t Left) arrived in
-      let ar : n.arrived t Right ≡ s.arrived t Right = ap (λ g. g t Right) arrived in
-      let cl : n.collected t Left ≡ s.collected t Left = ap (λ g. g t Left) collected in
-      let cr : n.collected t Right ≡ s.collected t Right = ap (λ g. g t Right) collected in
-      record {
-        left = side_after t Left lt_t;
-        right = side_after t Right lt_t;
-        met = rw al (rw ar (rw r (omega (arith, m, old.met))));
-        collected = λ li. rw cl (rw cr (rw r (omega (arith, c, old.collected li))));
-        rests_returned = λ de. r ∙ old.rests_returned de;
-        rests_uncollected = λ de. rw cl (rw cr (old.rests_uncollected de));
-      }
+      let c = now t Left in
+      node-same f s n t arrived collected returned (omega (arith, c.met)) (omega (arith, c.collecting))
+      (side_after t Left lt_t) (side_after t Right lt_t) (ok.nodes t lt_t)
 
   -- every worker is
   worker_after : (i : ℕ) → i < f.workers → IsLawfulWorker f n (n.worker i)
@@ -194,14 +150,5 @@ module _ (f : Frame) (fr : IsFrame f) (s n : State) (k : ℕ) (ps : List ℕ) (w
 
   -- a take leads to a lawful state
   pub taking_lawful : IsLawful f n
-  taking_lawful =
-      let fits = over_put f s n k w (λ v. v.tally.fits) lt worker in
-      let same_fits = ap (λ g. sum_below f.nodes (λ t. bit (f.live_node t) * bit (g t))) returned in
-      let steps = tally_put f s n k w lt worker steps_is in
-      let nexts = over_put f s n k w (λ v. v.next) lt worker in
-      record {
-        nodes = node_after;
-        workers = worker_after;
-        fits = omega (arith, fits, fits_is, ok.fits, same_fits);
-        steps = omega (arith, steps, nexts, next_is, steps_same, ok.steps);
-      }
+  taking_lawful = step_lawful step node_after worker_after (fits-same step returned fits_is)
+      (omega (arith, next_is, steps_same))

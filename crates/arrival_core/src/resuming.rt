@@ -2,7 +2,7 @@
 //! all. The parent of what it carries is found on the way down from the root.
 
 ghost use Rattle.std.specs.Prelude.{◌≡◌, ℕ, ◌+◌, ◌-◌, ◌*◌, ◌/◌, ◌^◌, ◌<◌, ◌≤◌, length, List, [], Bool, take, drop, if◌then◌else◌, Some, None};
-ghost use Rattle.morton_key.specs.Keys.{tri_at, IsLawful};
+ghost use Rattle.morton_key.specs.Keys.{tri_at};
 ghost use Rattle.radix_tree.specs.Fit.{box_of_triangle};
 ghost use Rattle.arrival_core.specs.declared.packets.TheConstants.{BATCH};
 ghost use Rattle.arrival_core.specs.declared.packets.Phase.TheVariants.{Second};
@@ -15,8 +15,8 @@ use crate::climbing::{leaf_up, node_up};
 use crate::forks::Climber;
 use crate::terrains::Terrain;
 use crate::{BATCH, Load, Packet, Phase, Side, Tally};
-use fixed_box::{Box3, union};
-use morton_key::Key;
+use fixed_box::union;
+use radix_tree::box_at;
 
 /// The tally after an event.
 pub(crate) fn one_step(tally: Tally) -> Tally
@@ -27,16 +27,6 @@ pub(crate) fn one_step(tally: Tally) -> Tally
         fits: tally.fits,
         steps: tally.steps + 1,
     }
-}
-
-/// The box of the triangle at a position.
-fn box_at(keys: &[Key], boxes: &[Box3], position: usize) -> Box3
-    requires lawful { IsLawful keys.now }
-    requires count { length boxes.now ≡ length keys.now }
-    requires within { position < length keys.now }
-    ensures { result ≡ box_of_triangle boxes.now (tri_at keys.now position) }
-{
-    boxes[keys[position].tri as usize - 1]
 }
 
 /// The packet of a leaf.

@@ -4,8 +4,7 @@ ghost use Rattle.box_handoff.specs.Made.{given_in, frame_in, numbers_in};
 ghost use Rattle.box_handoff.specs.Entries.{IsGiven, numbers, frame, given_of, one, worker_of};
 ghost use Rattle.box_handoff.specs.Plays.{mine, IsSmall};
 ghost use Rattle.box_handoff.specs.Climbs.{Climbed, IsCarried, Working};
-ghost use Rattle.morton_key.specs.Keys.{IsLawful, tri_at};
-ghost use Rattle.radix_tree.specs.Fit.{box_of_triangle};
+ghost use Rattle.morton_key.specs.Keys.{IsLawful};
 ghost use Rattle.arrival_core.specs.Frames.{other, packet_at};
 ghost use Rattle.arrival_core.specs.Events.{resume, join};
 ghost use Rattle.arrival_core.specs.Start.{fresh};
@@ -18,9 +17,8 @@ use crate::views::About;
 use crate::ways::Ways;
 use crate::{Load, Packet, Tally};
 use arrival_core::{BATCH, Up};
-use fixed_box::Box3;
-use morton_key::Key;
 use outside::Gate;
+use radix_tree::box_at;
 
 /// How many batches of leaves there are.
 pub fn batches_of(about: &About<'_>) -> usize
@@ -77,16 +75,6 @@ pub fn carry_up<W: Ways>(
             }
         }
     }
-}
-
-/// The box of the triangle at a position.
-pub fn box_at(keys: &[Key], boxes: &[Box3], position: usize) -> Box3
-    requires lawful { IsLawful keys.now }
-    requires count { length boxes.now ≡ length keys.now }
-    requires within { position < length keys.now }
-    ensures { result ≡ box_of_triangle boxes.now (tri_at keys.now position) }
-{
-    boxes[keys[position].tri as usize - 1]
 }
 
 /// The packet of the leaf at a position.

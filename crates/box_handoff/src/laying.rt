@@ -14,14 +14,13 @@ ghost use Rattle.box_handoff.specs.LiveNodes.{live_splits, splits_of};
 ghost use Rattle.box_handoff.specs.Starting.{start_word, start_slot};
 ghost use Rattle.box_handoff.specs.Laying.{AreMoves, Added, over, terrain_of, words_of, slots_of};
 
-use crate::climbing::box_at;
 use crate::making::zeros;
 use crate::slots::{SlotPacket, blank_slot, pack};
 use crate::{Packet, Side};
 use arrival_core::BATCH;
 use fixed_box::Box3;
 use outside::Memory;
-use radix_tree::{Child, Node, Tree, left, right};
+use radix_tree::{Child, Node, Tree, box_at, left, right};
 use std::alloc::Global;
 
 /// A tree, the boxes of its triangles now, and the positions of those that may have changed, for so many seats.

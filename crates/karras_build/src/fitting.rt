@@ -31,7 +31,7 @@ fn box_at(inputs: &Inputs<'_>, position: usize) -> Box3
     requires within { position < length inputs.now.keys.now }
     ensures { result ≡ box_of_triangle inputs.now.boxes.now (tri_at inputs.now.keys.now position) }
 {
-    inputs.boxes[inputs.keys[position].tri as usize - 1]
+    radix_tree::box_at(inputs.keys, inputs.boxes, position)
 }
 
 /// Fits a left child and all below it, and answers the box round its range. Its number is its last position, and its

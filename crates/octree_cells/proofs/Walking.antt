@@ -9,12 +9,11 @@ use Rattle.radix_tree.specs.declared.nodes.Child.TheVariants.{Leaf, Inner}
 use Rattle.radix_tree.specs.Split.{split}
 use Rattle.radix_tree.specs.Ranges.{IsNode, HasRange}
 use Rattle.radix_tree.specs.Table.{Contents, node_at, IsTable}
-use Rattle.radix_tree.specs.Filling.{IsChild, span_of}
 use Rattle.radix_tree.proofs.SplitLaws.{split_laws}
 use Rattle.radix_tree.proofs.NumberLaws.{proper, one_range}
 use Rattle.radix_tree.proofs.NodeLaws.{node_within, root_node}
 use Rattle.radix_tree.proofs.RowLaws.{node_is}
-use Rattle.radix_tree.proofs.DescentLaws.{row_range, child_from_range, span_from_range}
+use Rattle.radix_tree.proofs.DescentLaws.{row_range}
 use Rattle.octree_cells.specs.declared.cell.Cell.{Cell}
 use Rattle.octree_cells.specs.CellsOf.{cells_of}
 use Rattle.octree_cells.specs.Levels.{shared_level, IsApart, cell_over, cells_in}
@@ -151,29 +150,13 @@ module _ (t : Contents) (table : IsTable t) (level : ℕ) (deep : level ≤ LEVE
         ∙ (ap (cells_in t.keys level node.first) row.2 ∙ ap (λ z. cells_in t.keys level z b) row.1) in
         on_right ∙ (ap (λ xs. xs ++ then) on_left ∙ (append_assoc before first then ∙ ap (λ xs. before ++ xs) whole))
 
-    -- the left child stands in the tree, spans less and stands alone
-    pub left_is_child : (l : Child) → HasRange t.keys l node.first node.split → IsChild t l
-    left_is_child l d = child_from_range t table l _ _ (omega (arith, parted.high, parted.within)) d
-
-    pub left_falls : (child l : Child) → child ≡ Inner k → HasRange t.keys l node.first node.split →
-        span_of t l < span_of t child
-    left_falls child l is d =
-        omega (arith, parted.low, parted.high, ap (span_of t) is, span_from_range t table l _ _ d)
-
+    -- where a node's keys do not share the level, the range of its left child stands alone
     pub left_alone : shared_level t.keys node.first node.last < level → IsApart t.keys level node.first node.last →
         IsApart t.keys level node.first node.split
     left_alone less apart = left_apart t.keys table.lawful level deep node.first node.last node.split
         (omega (arith, parted.low, parted.high)) parted.within split_is less apart
 
-    -- so does the right child
-    pub right_is_child : (r : Child) → HasRange t.keys r (node.split + 1) node.last → IsChild t r
-    right_is_child r d = child_from_range t table r _ _ parted.within d
-
-    pub right_falls : (child r : Child) → child ≡ Inner k → HasRange t.keys r (node.split + 1) node.last →
-        span_of t r < span_of t child
-    right_falls child r is d =
-        omega (arith, parted.low, parted.high, ap (span_of t) is, span_from_range t table r _ _ d)
-
+    -- so does that of its right child
     pub right_alone : shared_level t.keys node.first node.last < level → IsApart t.keys level node.first node.last →
         IsApart t.keys level (node.split + 1) node.last
     right_alone less apart = right_apart t.keys table.lawful level deep node.first node.last node.split

@@ -1,3 +1,4 @@
+-- The way down a tree: the ranges of children, and the heights below them.
 use Rattle.std.proofs.Common.{◌≡◌, ◌≢◌, ℕ, ◌+◌, ◌-◌, ◌^◌, ◌<◌, ◌≤◌, max, refl, sym, ap, ◌∙◌, arith, subst, length}
 use Rattle.morton_key.proofs.Tags.{TAG_WIDTH}
 use Rattle.radix_tree.specs.declared.nodes.Node.{Node}
@@ -12,8 +13,14 @@ use Rattle.radix_tree.proofs.NumberLaws.{proper, one_range}
 use Rattle.radix_tree.proofs.NodeLaws.{node_within, node_below, split_low, split_high, left_node, right_node, root_node}
 use Rattle.radix_tree.proofs.HeightLaws.{height_of_one, height_le_span, height_of_fork, height_most}
 
+-- the greater of 0 and a number is that number
 max_zero : (h : ℕ) → max 0 h ≡ h
 max_zero h = omega arith
+
+-- the one child stands below the other: it stands in the tree, and spans less
+pub record IsBelow (t : Contents) (child below : Child) : Type 0 where
+  pub stands : IsChild t below
+  pub falls : span_of t below < span_of t child
 
 module _ (t : Contents) (table : IsTable t) where
   -- the node of a number has the range and the split of that number
@@ -84,6 +91,22 @@ module _ (t : Contents) (table : IsTable t) where
   pub span_from_range : (child : Child) (a b : ℕ) → HasRange t.keys child a b → span_of t child ≡ b - a
   span_from_range (Leaf p) a b (e, f) = omega arith
   span_from_range (Inner i) a b d = let r = row_range i a b d in omega (arith, r.1, r.2)
+
+  -- the left child of an inner node stands below it
+  pub left_below : (child l : Child) (k : ℕ) → k < length t.nodes → child ≡ Inner k →
+      HasRange t.keys l (node_at t.nodes k).first (node_at t.nodes k).split → IsBelow t child l
+  left_below child l k lt is d = record {
+    stands = child_from_range l _ _ (omega (arith, high_at k lt, last_at k lt)) d;
+    falls = omega (arith, low_at k lt, high_at k lt, ap (span_of t) is, span_from_range l _ _ d);
+  }
+
+  -- so does the right one
+  pub right_below : (child r : Child) (k : ℕ) → k < length t.nodes → child ≡ Inner k →
+      HasRange t.keys r ((node_at t.nodes k).split + 1) (node_at t.nodes k).last → IsBelow t child r
+  right_below child r k lt is d = record {
+    stands = child_from_range r _ _ (last_at k lt) d;
+    falls = omega (arith, low_at k lt, high_at k lt, ap (span_of t) is, span_from_range r _ _ d);
+  }
 
   -- a leaf is no inner node high, so it beats nothing
   pub leaf_over : (p least a b : ℕ) → HasRange t.keys (Leaf p) a b →

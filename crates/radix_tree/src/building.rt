@@ -16,8 +16,9 @@ use morton_key::Key;
 use outside::Memory;
 use std::alloc::{AllocError, Global};
 
-/// The box of the triangle at a position.
-fn box_at(keys: &[Key], boxes: &[Box3], position: usize) -> Box3
+/// The box of the triangle at a position, where `boxes[t - 1]` is the box of triangle `t`. It takes no memory.
+#[inline]
+pub fn box_at(keys: &[Key], boxes: &[Box3], position: usize) -> Box3
     requires lawful { IsLawful keys.now }
     requires count { length boxes.now ≡ length keys.now }
     requires within { position < length keys.now }

@@ -10,7 +10,7 @@ mod nodes;
 mod splitting;
 mod trees;
 
-pub use building::plain;
+pub use building::{box_at, plain};
 pub use descent::{height, left, right};
 pub use nodes::{Child, Node};
 pub use splitting::split_of;

@@ -10,14 +10,13 @@ use Rattle.radix_tree.specs.declared.nodes.Node.{Node}
 use Rattle.radix_tree.specs.Split.{split}
 use Rattle.radix_tree.specs.Ranges.{IsNode}
 use Rattle.radix_tree.specs.Table.{Contents, node_at, put_fit, IsTable}
-use Rattle.radix_tree.specs.Fit.{boxes_in, IsFitted, table_of}
+use Rattle.radix_tree.specs.Fit.{boxes_in, IsFitted}
 use Rattle.radix_tree.specs.Filling.{IsFullRow, HasRow}
 use Rattle.radix_tree.proofs.NumberLaws.{proper, range_of_node}
 use Rattle.radix_tree.proofs.NodeLaws.{node_within, node_end, one_number, split_low, split_high, full_row}
 use Rattle.radix_tree.proofs.DescentLaws.{row_range}
 use Rattle.radix_tree.proofs.FillLaws.{row_here, row_kept, full_from_rows}
 use Rattle.radix_tree.proofs.RowLaws.{row_with_box, table_with_box}
-use Rattle.radix_tree.proofs.OneTable.{table_is}
 use Rattle.arrival_core.specs.declared.packets.Packet.{Packet}
 use Rattle.arrival_core.specs.declared.packets.Side.TheVariants.{Left, Right}
 use Rattle.arrival_core.specs.Settings.{Setting, setting, row_of, live_in, frame_of}
@@ -244,9 +243,6 @@ module _ (x : Setting) (task : IsTask x) (old : List Node)
         let room : length now.nodes ≡ length x.keys - 1 = omega (arith, h.table.count, ap length h.keys) in
         let full = full_from_rows x.keys x.boxes now.nodes task.lawful task.boxes_count room right in
         subst (λ ks. IsFitted (record { keys = ks; nodes = now.nodes }) x.boxes) (sym h.keys) full.fitted
-
-    pub all_value : now.nodes ≡ table_of x.keys x.boxes
-    all_value = table_is now x.boxes h.table all_fitted ∙ ap (λ ks. table_of ks x.boxes) h.keys
 
 -- no position lies in a range where none is live
 pub none_live : (live : List ℕ) (a b : ℕ) → length live ≡ 0 → live_in live a b ≡ false

@@ -24,7 +24,7 @@ pub(crate) fn box_at(tree: &Tree, boxes: &[Box3], position: u32) -> Box3
     ensures value { result ≡ box_of_triangle boxes.now (tri_at tree.now.keys position) }
     ensures least { IsLeastBox (boxes_in boxes.now tree.now.keys position position) result }
 {
-    boxes[tree.keys()[position as usize].tri as usize - 1]
+    radix_tree::box_at(tree.keys(), boxes, position as usize)
 }
 
 /// The node of that number.

@@ -1,101 +1,84 @@
 -- An axis whose parts are known is that of its way.
-use Rattle.std.proofs.Common.{◌≡◌, ◌∙◌, ℤ, pos, ◌+ℤ◌, ◌-ℤ◌, ◌*ℤ◌, ◌≤ℤ◌, ◌<ℤ◌, arith, ap, sym, inl, inr, subst, Bool, true, false, cond}
+use Rattle.std.proofs.Common.{◌≡◌, ◌∙◌, ℤ, pos, ◌+ℤ◌, ◌-ℤ◌, ◌*ℤ◌, ◌<ℤ◌, arith, ap, refl, inl, inr, true, false}
 use Rattle.std.proofs.lemmas.Int.{ints}
-use Rattle.segment_hit.specs.Entering.{IsBetweenAt}
-use Rattle.segment_hit.specs.Stretches.{IsOnWay, IsPart}
-use Rattle.segment_hit.proofs.Chains.{apart}
 use Rattle.segment_hit.specs.declared.line.Axis.{Axis}
 use Rattle.segment_hit.specs.Lines.{IsWay, IsAxisOf, entry_of, exit_of}
 use Rattle.segment_hit.proofs.LineWays.{rising, falling, resting}
 
-module _ (a : Axis) (lo hi : ℤ) where
-  pub entry_up : a.rises ≡ true → entry_of a lo hi ≡ (lo -ℤ a.from) *ℤ a.scale
-  unfolding entry_of
-  entry_up e = ap (λ c. (cond c (lo -ℤ a.from) (a.from -ℤ hi)) *ℤ a.scale) e
+-- where an axis with known parts enters and leaves a slab
+module _ (a : Axis) (lo hi from scale slack : ℤ) (at : a.from ≡ from) (scale_is : a.scale ≡ scale)
+    (slack_is : a.slack ≡ slack) where
+  -- where the axis rises
+  pub ends_up : a.rises ≡ true →
+      (entry_of a lo hi ≡ (lo -ℤ from) *ℤ scale) × (exit_of a lo hi ≡ (hi -ℤ from) *ℤ scale +ℤ slack)
+  unfolding entry_of exit_of
+  ends_up up = (rw (up, at, scale_is) refl, rw (up, at, scale_is, slack_is) refl)
 
-  pub entry_down : a.rises ≡ false → entry_of a lo hi ≡ (a.from -ℤ hi) *ℤ a.scale
-  unfolding entry_of
-  entry_down e = ap (λ c. (cond c (lo -ℤ a.from) (a.from -ℤ hi)) *ℤ a.scale) e
+  -- where it falls
+  pub ends_down : a.rises ≡ false →
+      (entry_of a lo hi ≡ (from -ℤ hi) *ℤ scale) × (exit_of a lo hi ≡ (from -ℤ lo) *ℤ scale +ℤ slack)
+  unfolding entry_of exit_of
+  ends_down down = (rw (down, at, scale_is) refl, rw (down, at, scale_is, slack_is) refl)
 
-  pub exit_up : a.rises ≡ true → exit_of a lo hi ≡ (hi -ℤ a.from) *ℤ a.scale +ℤ a.slack
-  unfolding exit_of
-  exit_up e = ap (λ c. (cond c (hi -ℤ a.from) (a.from -ℤ lo)) *ℤ a.scale +ℤ a.slack) e
-
-  pub exit_down : a.rises ≡ false → exit_of a lo hi ≡ (a.from -ℤ lo) *ℤ a.scale +ℤ a.slack
-  unfolding exit_of
-  exit_down e = ap (λ c. (cond c (hi -ℤ a.from) (a.from -ℤ lo)) *ℤ a.scale +ℤ a.slack) e
-
+-- no slack adds nothing
 no_more : (z : ℤ) → z +ℤ pos 0 ≡ z
 no_more z = omega (arith, ints)
 
+-- once a number is that number
 once : (z : ℤ) → pos 1 *ℤ z ≡ z
 once z = omega (arith, ints)
 
+-- of two numbers one alone is less, or they are equal
+module _ (x y : ℤ) where
+  -- not both ways
+  not_both : x <ℤ y → y <ℤ x → ⊥
+  not_both h k = omega (arith, ints)
+
+  -- nor less and equal
+  not_equal : x <ℤ y → x ≡ y → ⊥
+  not_equal h k = omega (arith, ints)
+
+  -- nor greater and equal
+  not_greater : y <ℤ x → x ≡ y → ⊥
+  not_greater h k = omega (arith, ints)
+
 module _ (a : Axis) (from to way others whole : ℤ) (at : a.from ≡ from) (is_way : IsWay from to way)
     (above : pos 0 <ℤ others) (is : whole ≡ way *ℤ others) where
+  -- an axis that rises by the whole way over the others
   pub axis_rising : from <ℤ to → a.rises ≡ true → a.scale ≡ others → a.slack ≡ pos 0 → IsAxisOf from to whole a
   axis_rising lt up scale slack lo hi T E part =
-      let entry : entry_of a lo hi ≡ (lo -ℤ from) *ℤ others =
-      entry_up a lo hi up ∙ (ap (λ z. (lo -ℤ z) *ℤ a.scale) at ∙ ap (λ m. (lo -ℤ from) *ℤ m) scale) in
-      let exit : exit_of a lo hi ≡ (hi -ℤ from) *ℤ others =
-      exit_up a lo hi up ∙ (ap (λ z. (hi -ℤ z) *ℤ a.scale +ℤ a.slack) at
-      ∙ (ap (λ m. (hi -ℤ from) *ℤ m +ℤ a.slack) scale
-      ∙ (ap (λ s. (hi -ℤ from) *ℤ others +ℤ s) slack ∙ no_more ((hi -ℤ from) *ℤ others)))) in
+      let ends = ends_up a lo hi from others (pos 0) at scale slack up in
+      let exit = ends.1 ∙ no_more ((hi -ℤ from) *ℤ others) in
       let long : whole ≡ (to -ℤ from) *ℤ others = is ∙ ap (λ w. w *ℤ others) (own is_way) in
-      rw (entry, exit, long) (rising from to lo hi others T E above)
+      rw (ends.0, exit, long) (rising from to lo hi others T E above)
     where
       own : IsWay from to way → way ≡ to -ℤ from
       own (inl h) = h.1
-      own (inr (inl h)) = absurd (both from to lt h.0)
-        where
-          both : (x y : ℤ) → x <ℤ y → y <ℤ x → ⊥
-          both x y h k = omega (arith, ints)
-      own (inr (inr h)) = absurd (both from to lt h.0)
-        where
-          both : (x y : ℤ) → x <ℤ y → x ≡ y → ⊥
-          both x y h k = omega (arith, ints)
+      own (inr (inl h)) = absurd (not_both from to lt h.0)
+      own (inr (inr h)) = absurd (not_equal from to lt h.0)
 
+  -- one that falls by it
   pub axis_falling : to <ℤ from → a.rises ≡ false → a.scale ≡ others → a.slack ≡ pos 0 → IsAxisOf from to whole a
   axis_falling lt down scale slack lo hi T E part =
-      let entry : entry_of a lo hi ≡ (from -ℤ hi) *ℤ others =
-      entry_down a lo hi down ∙ (ap (λ z. (z -ℤ hi) *ℤ a.scale) at ∙ ap (λ m. (from -ℤ hi) *ℤ m) scale) in
-      let exit : exit_of a lo hi ≡ (from -ℤ lo) *ℤ others =
-      exit_down a lo hi down ∙ (ap (λ z. (z -ℤ lo) *ℤ a.scale +ℤ a.slack) at
-      ∙ (ap (λ m. (from -ℤ lo) *ℤ m +ℤ a.slack) scale
-      ∙ (ap (λ s. (from -ℤ lo) *ℤ others +ℤ s) slack ∙ no_more ((from -ℤ lo) *ℤ others)))) in
+      let ends = ends_down a lo hi from others (pos 0) at scale slack down in
+      let exit = ends.1 ∙ no_more ((from -ℤ lo) *ℤ others) in
       let long : whole ≡ (from -ℤ to) *ℤ others = is ∙ ap (λ w. w *ℤ others) (own is_way) in
-      rw (entry, exit, long) (falling from to lo hi others T E above)
+      rw (ends.0, exit, long) (falling from to lo hi others T E above)
     where
       own : IsWay from to way → way ≡ from -ℤ to
-      own (inl h) = absurd (both from to h.0 lt)
-        where
-          both : (x y : ℤ) → x <ℤ y → y <ℤ x → ⊥
-          both x y h k = omega (arith, ints)
+      own (inl h) = absurd (not_both from to h.0 lt)
       own (inr (inl h)) = h.1
-      own (inr (inr h)) = absurd (both from to lt h.0)
-        where
-          both : (x y : ℤ) → y <ℤ x → x ≡ y → ⊥
-          both x y h k = omega (arith, ints)
+      own (inr (inr h)) = absurd (not_greater from to lt h.0)
 
+  -- one that rests, and is doubled so that its slack counts once
   pub axis_resting : from ≡ to → a.rises ≡ true → a.scale ≡ pos 2 *ℤ others → a.slack ≡ others →
       IsAxisOf from to whole a
   axis_resting same up scale slack lo hi T E part =
-      let entry : entry_of a lo hi ≡ (lo -ℤ from) *ℤ (pos 2 *ℤ others) =
-      entry_up a lo hi up ∙ (ap (λ z. (lo -ℤ z) *ℤ a.scale) at ∙ ap (λ m. (lo -ℤ from) *ℤ m) scale) in
-      let exit : exit_of a lo hi ≡ (hi -ℤ from) *ℤ (pos 2 *ℤ others) +ℤ others =
-      exit_up a lo hi up ∙ (ap (λ z. (hi -ℤ z) *ℤ a.scale +ℤ a.slack) at
-      ∙ (ap (λ m. (hi -ℤ from) *ℤ m +ℤ a.slack) scale
-      ∙ ap (λ s. (hi -ℤ from) *ℤ (pos 2 *ℤ others) +ℤ s) slack)) in
+      let ends = ends_up a lo hi from (pos 2 *ℤ others) others at scale slack up in
       let long : whole ≡ others = is ∙ (ap (λ w. w *ℤ others) (own is_way) ∙ once others) in
-      rw (entry, exit, long) (resting from to lo hi others T E same above part)
+      rw (ends.0, ends.1, long) (resting from to lo hi others T E same above part)
     where
       own : IsWay from to way → way ≡ pos 1
-      own (inl h) = absurd (both from to h.0 same)
-        where
-          both : (x y : ℤ) → x <ℤ y → x ≡ y → ⊥
-          both x y h k = omega (arith, ints)
-      own (inr (inl h)) = absurd (both from to h.0 same)
-        where
-          both : (x y : ℤ) → y <ℤ x → x ≡ y → ⊥
-          both x y h k = omega (arith, ints)
+      own (inl h) = absurd (not_equal from to h.0 same)
+      own (inr (inl h)) = absurd (not_greater from to h.0 same)
       own (inr (inr h)) = h.1

@@ -1,10 +1,9 @@
 -- Where a segment enters and leaves a box, from its axes.
-use Rattle.std.proofs.Common.{◌≡◌, ◌∙◌, ◌⊎◌, ◌<◌, ◌≤◌, ◌^◌, ℕ, ℤ, pos, ◌+ℤ◌, ◌-ℤ◌, ◌*ℤ◌, ◌≤ℤ◌, ◌<ℤ◌, arith, ap, sym, inl, inr, subst, to_z, of_z, w32, w64}
+use Rattle.std.proofs.Common.{◌≡◌, ◌∙◌, ◌≤◌, ℤ, pos, ◌*ℤ◌, ◌≤ℤ◌, ◌<ℤ◌, arith, ap, sym, subst, to_z, of_z, w32, w64, unsigned_abs}
 use Rattle.std.proofs.lemmas.Int.{ints}
 use Rattle.fixed_box.specs.declared.shapes.Point.{Point}
 use Rattle.fixed_box.specs.declared.shapes.Box3.{Box3}
 use Rattle.fixed_box.specs.World.{IsCoordinate}
-use Rattle.segment_hit.specs.Entering.{IsIn}
 use Rattle.segment_hit.specs.Stretches.{IsFrom, IsUpTo, IsPart}
 use Rattle.segment_hit.proofs.Integers.{times_comm, times_assoc, times-zero}
 use Rattle.segment_hit.proofs.Signs.{orderly, grows}
@@ -14,7 +13,9 @@ use Rattle.segment_hit.specs.declared.line.Line.{Line}
 use Rattle.segment_hit.specs.declared.line.Place.{Place}
 use Rattle.segment_hit.specs.Lines.{IsAxisOf, entry_of, exit_of, IsLineOf, IsPassageOf}
 use Rattle.segment_hit.specs.Places.{IsLaterPlace, IsSoonerPlace}
-use Rattle.segment_hit.proofs.Passed.{coordinate_passed}
+use Rattle.segment_hit.proofs.Passed.{coordinate_passed, number_passed}
+use Rattle.std.specs.Prelude.{◌*◌}
+use Rattle.segment_hit.specs.declared.vectors.TheConstants.{SPAN, SQUARE}
 
 -- a product of numbers above 0 is above 0
 pub product_above : (x y : ℤ) → pos 0 <ℤ x → pos 0 <ℤ y → pos 0 <ℤ (x *ℤ y)
@@ -23,12 +24,54 @@ product_above x y a b =
     let nought : pos 0 *ℤ y ≡ pos 0 = times_comm (pos 0) y ∙ times-zero y in
     omega (arith, orderly, k, nought)
 
--- three ways in another order
-pub second_first : (x y z : ℤ) → x *ℤ (y *ℤ z) ≡ y *ℤ (x *ℤ z)
+-- three ways, the second first
+second_first : (x y z : ℤ) → x *ℤ (y *ℤ z) ≡ y *ℤ (x *ℤ z)
 second_first x y z = sym (times_assoc x y z) ∙ (ap (λ m. m *ℤ z) (times_comm x y) ∙ times_assoc y x z)
 
-pub third_first : (x y z : ℤ) → x *ℤ (y *ℤ z) ≡ z *ℤ (x *ℤ y)
+-- and the third first
+third_first : (x y z : ℤ) → x *ℤ (y *ℤ z) ≡ z *ℤ (x *ℤ y)
 third_first x y z = sym (times_assoc x y z) ∙ times_comm (x *ℤ y) z
+
+-- three ways that were passed on, the product of the last two, and the product of all
+module _ (x y z yz whole : ℤ) (x_small : unsigned_abs x ≤ SPAN) (y_small : unsigned_abs y ≤ SPAN)
+    (z_small : unsigned_abs z ≤ SPAN) (yz_small : unsigned_abs yz ≤ SPAN * SPAN)
+    (whole_small : unsigned_abs whole ≤ SPAN * SQUARE)
+    (yz_is : yz ≡ to_z w64 (of_z w64 y) *ℤ to_z w64 (of_z w64 z))
+    (whole_is : whole ≡ to_z w64 (of_z w64 x) *ℤ to_z w64 (of_z w64 yz)) where
+  -- passed on, they are as they were
+  x_passed : to_z w64 (of_z w64 x) ≡ x
+  x_passed = number_passed x SPAN x_small (omega arith)
+
+  -- the second
+  y_passed : to_z w64 (of_z w64 y) ≡ y
+  y_passed = number_passed y SPAN y_small (omega arith)
+
+  -- the third
+  z_passed : to_z w64 (of_z w64 z) ≡ z
+  z_passed = number_passed z SPAN z_small (omega arith)
+
+  -- and the product of all is what it says
+  whole_passed : to_z w64 (of_z w64 whole) ≡ x *ℤ (y *ℤ z)
+  whole_passed =
+      let product = rw (y_passed, z_passed) at yz_is in
+      let value = rw (x_passed, number_passed yz (SPAN * SPAN) yz_small (omega arith)) at whole_is in
+      number_passed whole (SPAN * SQUARE) whole_small (omega arith) ∙ (value ∙ ap (λ m. x *ℤ m) product)
+
+  -- so the second way times the product of the others is it
+  pub whole_second : (xz : ℤ) → unsigned_abs xz ≤ SPAN * SPAN →
+      xz ≡ to_z w64 (of_z w64 x) *ℤ to_z w64 (of_z w64 z) →
+      to_z w64 (of_z w64 whole) ≡ to_z w64 (of_z w64 y) *ℤ to_z w64 (of_z w64 xz)
+  whole_second xz small xz_is =
+      let product = rw (x_passed, z_passed) at xz_is in
+      rw (whole_passed, y_passed, number_passed xz (SPAN * SPAN) small (omega arith), product) (second_first x y z)
+
+  -- and so is the third
+  pub whole_third : (xy : ℤ) → unsigned_abs xy ≤ SPAN * SPAN →
+      xy ≡ to_z w64 (of_z w64 x) *ℤ to_z w64 (of_z w64 y) →
+      to_z w64 (of_z w64 whole) ≡ to_z w64 (of_z w64 z) *ℤ to_z w64 (of_z w64 xy)
+  whole_third xy small xy_is =
+      let product = rw (x_passed, y_passed) at xy_is in
+      rw (whole_passed, z_passed, number_passed xy (SPAN * SPAN) small (omega arith), product) (third_first x y z)
 
 -- an axis of coordinates that were passed on
 pub axis_passed : (p q w v : ℤ) (a b : Axis) → IsCoordinate p → IsCoordinate q → b ≡ a → v ≡ w →
@@ -48,6 +91,7 @@ later_second a b lt whole T E part = (
   λ h. h.1,
 )
 
+-- where the first is later
 pub later_first : (a b : Place) → b.at ≤ℤ a.at → IsLaterPlace a b a
 later_first a b le whole T E part = (
   λ h.
@@ -65,6 +109,7 @@ sooner_first a b lt whole T E part = (
   λ h. h.0,
 )
 
+-- where the second is sooner
 pub sooner_second : (a b : Place) → b.at ≤ℤ a.at → IsSoonerPlace a b b
 sooner_second a b le whole T E part = (
   λ h.

@@ -45,35 +45,38 @@ swapped a b c =
     rw (← vector_parts a, ← vector_parts b, ← vector_parts c)
     (simp to_diff (same_diff _ _ _ _ (omega arith)))
 
--- n x (r x d), and (f x g) x m, on the axis x
+-- a vector with its axes moved on by one
+abbrev moved : Vector → Vector
+moved v = record { x = v.y; y = v.z; z = v.x }
+
+-- a dot product does not tell the axes apart
+moved_dot : (d k : Vector) → dot (moved d) (moved k) ≡ dot d k
+moved_dot d k = rw (← vector_parts d, ← vector_parts k) (simp to_diff (same_diff _ _ _ _ (omega arith)))
+
+-- n x (r x d) on the axis x
 pub bac_x : (n r d : Vector) → (cross n (cross r d)).x ≡ dot d n *ℤ r.x -ℤ dot r n *ℤ d.x
 bac_x n r d =
     rw (← vector_parts n, ← vector_parts r, ← vector_parts d)
     (simp to_diff (same_diff _ _ _ _ (omega arith)))
 
+-- on the axis y
+pub bac_y : (n r d : Vector) → (cross n (cross r d)).y ≡ dot d n *ℤ r.y -ℤ dot r n *ℤ d.y
+bac_y n r d = rw (← moved_dot d n, ← moved_dot r n) (bac_x (moved n) (moved r) (moved d))
+
+-- and on the axis z
+pub bac_z : (n r d : Vector) → (cross n (cross r d)).z ≡ dot d n *ℤ r.z -ℤ dot r n *ℤ d.z
+bac_z n r d = rw (← moved_dot d n, ← moved_dot r n) (bac_y (moved n) (moved r) (moved d))
+
+-- (f x g) x m on the axis x
 pub cab_x : (f g m : Vector) → (cross (cross f g) m).x ≡ dot f m *ℤ g.x -ℤ dot g m *ℤ f.x
 cab_x f g m =
     rw (← vector_parts f, ← vector_parts g, ← vector_parts m)
     (simp to_diff (same_diff _ _ _ _ (omega arith)))
 
--- n x (r x d), and (f x g) x m, on the axis y
-pub bac_y : (n r d : Vector) → (cross n (cross r d)).y ≡ dot d n *ℤ r.y -ℤ dot r n *ℤ d.y
-bac_y n r d =
-    rw (← vector_parts n, ← vector_parts r, ← vector_parts d)
-    (simp to_diff (same_diff _ _ _ _ (omega arith)))
-
+-- on the axis y
 pub cab_y : (f g m : Vector) → (cross (cross f g) m).y ≡ dot f m *ℤ g.y -ℤ dot g m *ℤ f.y
-cab_y f g m =
-    rw (← vector_parts f, ← vector_parts g, ← vector_parts m)
-    (simp to_diff (same_diff _ _ _ _ (omega arith)))
+cab_y f g m = rw (← moved_dot f m, ← moved_dot g m) (cab_x (moved f) (moved g) (moved m))
 
--- n x (r x d), and (f x g) x m, on the axis z
-pub bac_z : (n r d : Vector) → (cross n (cross r d)).z ≡ dot d n *ℤ r.z -ℤ dot r n *ℤ d.z
-bac_z n r d =
-    rw (← vector_parts n, ← vector_parts r, ← vector_parts d)
-    (simp to_diff (same_diff _ _ _ _ (omega arith)))
-
+-- and on the axis z
 pub cab_z : (f g m : Vector) → (cross (cross f g) m).z ≡ dot f m *ℤ g.z -ℤ dot g m *ℤ f.z
-cab_z f g m =
-    rw (← vector_parts f, ← vector_parts g, ← vector_parts m)
-    (simp to_diff (same_diff _ _ _ _ (omega arith)))
+cab_z f g m = rw (← moved_dot f m, ← moved_dot g m) (cab_y (moved f) (moved g) (moved m))

@@ -97,22 +97,25 @@ module _ (t : Contents) (tris : List Tri) (p q : Point) where
     abbrev node : Node
     node = node_at t.nodes k
 
-    -- either child stands in the tree
-    pub side_is_child : (x y : Approach) → AreSides x y node.first node.split node.last → IsChild t x.child
-    side_is_child x y (inl h) = left_is_child here x.child h.0.range
-    side_is_child x y (inr h) = right_is_child here x.child h.1.range
+    -- an approach to a child of the node: the child stands in the tree and spans less, and its entry tells of what
+    -- stands below it
+    pub record Goes (x : Approach) : Type 0 where
+      pub stands : IsChild t x.child
+      pub falls : span_of t x.child < span_of t child
+      pub screens : (a b : ℕ) → HasRange t.keys x.child a b → Screens tris p q (StandsIn t.keys a b) x.at
 
-    -- and spans less
-    pub side_falls : (x y : Approach) → AreSides x y node.first node.split node.last →
-        span_of t x.child < span_of t child
-    side_falls x y (inl h) = left_falls here x.child h.0.range
-    side_falls x y (inr h) = right_falls here x.child h.1.range
-
-    -- and its entry tells of what stands below it
-    pub side_screens : (x y : Approach) → AreSides x y node.first node.split node.last → (a b : ℕ) →
-        HasRange t.keys x.child a b → Screens tris p q (StandsIn t.keys a b) x.at
-    side_screens x y (inl h) = h.0.screens
-    side_screens x y (inr h) = h.1.screens
+    -- so do both sides
+    pub side_goes : (x y : Approach) → AreSides x y node.first node.split node.last → Goes x
+    side_goes x y (inl h) = record {
+      stands = left_is_child here x.child h.0.range;
+      falls = left_falls here x.child h.0.range;
+      screens = h.0.screens;
+    }
+    side_goes x y (inr h) = record {
+      stands = right_is_child here x.child h.1.range;
+      falls = right_falls here x.child h.1.range;
+      screens = h.1.screens;
+    }
 
     -- what stands below the node stands below one of them
     parts : (a b n : ℕ) → (node.first ≡ a) × (node.last ≡ b) → StandsIn t.keys a b n →

@@ -11,7 +11,7 @@ use Rattle.radix_tree.specs.Table.{Contents, node_at, IsTable}
 use Rattle.radix_tree.specs.Fit.{IsFitted}
 use Rattle.radix_tree.specs.Filling.{IsChild, span_of}
 use Rattle.radix_tree.proofs.NumberLaws.{proper}
-use Rattle.radix_tree.proofs.DescentLaws.{low_at, high_at, last_at, row_range, child_from_range, span_from_range}
+use Rattle.radix_tree.proofs.DescentLaws.{low_at, high_at, last_at, row_range, left_below, right_below}
 use Rattle.traversal.specs.Walks.{met_in, met_below}
 use Rattle.traversal.proofs.Pruning.{missed_node_meets_none}
 use Rattle.traversal.proofs.Parts.{met_in-parted, below-leaf}
@@ -58,18 +58,19 @@ module _ {t : Contents} {boxes : List Box3} {child : Child} {k : ℕ} (here : At
 
   -- the left child stands in the tree
   pub left_is_child : (l : Child) → HasRange t.keys l node.first node.split → IsChild t l
-  left_is_child l d = child_from_range t here.table l _ _ (omega (arith, high, within)) d
+  left_is_child l d = (left_below t here.table child l k here.inside here.is d).stands
 
   -- and spans less
   pub left_falls : (l : Child) → HasRange t.keys l node.first node.split → span_of t l < span_of t child
-  left_falls l d = omega (arith, low, high, ap (span_of t) here.is, span_from_range t here.table l _ _ d)
+  left_falls l d = (left_below t here.table child l k here.inside here.is d).falls
 
-  -- so does the right child
+  -- the right child stands in the tree
   pub right_is_child : (r : Child) → HasRange t.keys r (node.split + 1) node.last → IsChild t r
-  right_is_child r d = child_from_range t here.table r _ _ within d
+  right_is_child r d = (right_below t here.table child r k here.inside here.is d).stands
 
+  -- and spans less
   pub right_falls : (r : Child) → HasRange t.keys r (node.split + 1) node.last → span_of t r < span_of t child
-  right_falls r d = omega (arith, low, high, ap (span_of t) here.is, span_from_range t here.table r _ _ d)
+  right_falls r d = (right_below t here.table child r k here.inside here.is d).falls
 
   module _ (q : Box3) where
     -- at a node whose box misses the query nothing is added

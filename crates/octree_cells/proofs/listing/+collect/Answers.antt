@@ -2,6 +2,7 @@ use Rattle.std.proofs.Common.{◌<◌, length, arith, subst}
 use Rattle.std.proofs.lemmas.Result.{on_ok_weaker}
 use Rattle.radix_tree.specs.Ranges.{HasRange}
 use Rattle.radix_tree.specs.Filling.{IsChild}
+use Rattle.radix_tree.proofs.DescentLaws.{left_below, right_below}
 use Rattle.octree_cells.proofs.Walking as W
 use Rattle.octree_cells.proofs.listing.+collect.Goals as goal
 
@@ -28,48 +29,26 @@ collect-requires t c =
     let tree = c.args.t.now in
     let number = c.in-Inner.number in
     let inside : number < length tree.nodes = subst (IsChild tree) c.in-Inner.is c.requires.child in
-    let falls = W.left_falls tree c.requires.table c.args.level c.requires.level number inside c.args.child
-    c.left.result c.in-Inner.is c.left.ensures in
-    let alone = W.left_alone tree c.requires.table c.args.level c.requires.level number inside
-    (c.cell_of.ensures.none c.in_default-cell_of.is) (W.own_apart tree c.requires.table c.args.level c.requires.level
-    number inside c.args.child c.in-Inner.is c.requires.apart) in (
-      omega (arith, falls),
-      (
-        c.requires.table,
-        (
-          c.requires.level,
-          (
-            W.left_is_child tree c.requires.table c.args.level c.requires.level number inside c.left.result
-                c.left.ensures,
-            W.apart_from tree c.requires.table c.args.level c.requires.level c.left.result _ _ c.left.ensures alone,
-          ),
-        ),
-      ),
-    )
+    let below = left_below tree c.requires.table c.args.child c.left.result number inside c.in-Inner.is c.left.ensures in
+    let own = W.own_apart tree c.requires.table c.args.level c.requires.level number inside c.args.child c.in-Inner.is
+    c.requires.apart in
+    let alone = W.apart_from tree c.requires.table c.args.level c.requires.level c.left.result _ _ c.left.ensures
+    (W.left_alone tree c.requires.table c.args.level c.requires.level number inside
+    (c.cell_of.ensures.none c.in_default-cell_of.is) own) in
+    (omega (arith, below.falls), (c.requires.table, (c.requires.level, (below.stands, alone))))
 
 pub collect-requires-2 : goal.collect-requires-2
 collect-requires-2 t c =
     let tree = c.args.t.now in
     let number = c.in-Inner.number in
     let inside : number < length tree.nodes = subst (IsChild tree) c.in-Inner.is c.requires.child in
-    let falls = W.right_falls tree c.requires.table c.args.level c.requires.level number inside c.args.child
-    c.right.result c.in-Inner.is c.right.ensures in
-    let alone = W.right_alone tree c.requires.table c.args.level c.requires.level number inside
-    (c.cell_of.ensures.none c.in_default-cell_of.is) (W.own_apart tree c.requires.table c.args.level c.requires.level
-    number inside c.args.child c.in-Inner.is c.requires.apart) in (
-      omega (arith, falls),
-      (
-        c.requires.table,
-        (
-          c.requires.level,
-          (
-            W.right_is_child tree c.requires.table c.args.level c.requires.level number inside c.right.result
-                c.right.ensures,
-            W.apart_from tree c.requires.table c.args.level c.requires.level c.right.result _ _ c.right.ensures alone,
-          ),
-        ),
-      ),
-    )
+    let below = right_below tree c.requires.table c.args.child c.right.result number inside c.in-Inner.is c.right.ensures in
+    let own = W.own_apart tree c.requires.table c.args.level c.requires.level number inside c.args.child c.in-Inner.is
+    c.requires.apart in
+    let alone = W.apart_from tree c.requires.table c.args.level c.requires.level c.right.result _ _ c.right.ensures
+    (W.right_alone tree c.requires.table c.args.level c.requires.level number inside
+    (c.cell_of.ensures.none c.in_default-cell_of.is) own) in
+    (omega (arith, below.falls), (c.requires.table, (c.requires.level, (below.stands, alone))))
 
 pub returns : goal.returns
 returns t c =

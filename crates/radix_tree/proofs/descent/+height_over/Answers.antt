@@ -2,8 +2,8 @@ use Rattle.std.proofs.Common.{◌≡◌, ℕ, ◌+◌, ◌-◌, ◌<◌, ◌≤�
 use Rattle.radix_tree.specs.Ranges.{IsNode, HasRange}
 use Rattle.radix_tree.specs.Shape.{shape_in, height_of}
 use Rattle.radix_tree.specs.Table.{node_at}
-use Rattle.radix_tree.specs.Filling.{IsChild, span_of}
-use Rattle.radix_tree.proofs.DescentLaws.{low_at, high_at, last_at, child_from_range, span_from_range, leaf_over, few_over, node_over, over_most}
+use Rattle.radix_tree.specs.Filling.{IsChild}
+use Rattle.radix_tree.proofs.DescentLaws.{low_at, high_at, left_below, right_below, leaf_over, few_over, node_over, over_most}
 use Rattle.radix_tree.proofs.descent.+height_over.Goals as goal
 
 pub overflow_sub-node : goal.overflow_sub-node
@@ -33,49 +33,21 @@ returns-then-node-least-clause-value t c = λ a b r.
 
 pub height_over-over_left-requires : goal.height_over-over_left-requires
 height_over-over_left-requires t c =
-    let tree = c.args.t.now in
-    let inside : c.in-Inner.number < length tree.nodes = subst (IsChild tree) c.in-Inner.is c.requires.child in
-    let low = low_at tree c.requires.table c.in-Inner.number inside in
-    let high = high_at tree c.requires.table c.in-Inner.number inside in (
-      omega (
-        arith,
-        low,
-        high,
-        ap (span_of tree) c.in-Inner.is,
-        span_from_range tree c.requires.table c.left.result _ _ c.left.ensures,
-      ),
-      (
-        c.requires.table,
-        (
-          child_from_range tree c.requires.table c.left.result _ _
-              (omega (arith, high, last_at tree c.requires.table c.in-Inner.number inside)) c.left.ensures,
-          omega (arith, c.saturating_sub.ensures, c.requires.least),
-        ),
-      ),
+    let inside : c.in-Inner.number < length c.args.t.now.nodes = subst (IsChild c.args.t.now) c.in-Inner.is
+    c.requires.child in
+    let left = left_below c.args.t.now c.requires.table c.args.child c.left.result c.in-Inner.number inside
+    c.in-Inner.is c.left.ensures in (
+      omega (arith, left.falls),
+      (c.requires.table, (left.stands, omega (arith, c.saturating_sub.ensures, c.requires.least))),
     )
 
 pub height_over-requires : goal.height_over-requires
 height_over-requires t c =
-    let tree = c.args.t.now in
-    let inside : c.in-Inner.number < length tree.nodes = subst (IsChild tree) c.in-Inner.is c.requires.child in
-    let low = low_at tree c.requires.table c.in-Inner.number inside in
-    let high = high_at tree c.requires.table c.in-Inner.number inside in (
-      omega (
-        arith,
-        low,
-        high,
-        ap (span_of tree) c.in-Inner.is,
-        span_from_range tree c.requires.table c.right.result _ _ c.right.ensures,
-      ),
-      (
-        c.requires.table,
-        (
-          child_from_range tree c.requires.table c.right.result _ _
-              (last_at tree c.requires.table c.in-Inner.number inside) c.right.ensures,
-          c.height_over-over_left.ensures.most,
-        ),
-      ),
-    )
+    let inside : c.in-Inner.number < length c.args.t.now.nodes = subst (IsChild c.args.t.now) c.in-Inner.is
+    c.requires.child in
+    let right = right_below c.args.t.now c.requires.table c.args.child c.right.result c.in-Inner.number inside
+    c.in-Inner.is c.right.ensures in
+    (omega (arith, right.falls), (c.requires.table, (right.stands, c.height_over-over_left.ensures.most)))
 
 pub returns-in-Leaf-clause-value : goal.returns-in-Leaf-clause-value
 returns-in-Leaf-clause-value t c = λ a b r.

@@ -1,11 +1,13 @@
 use Rattle.std.proofs.Common.{◌<◌, ◌≤◌, length, ap, ◌∙◌, arith}
 use Rattle.std.proofs.lemmas.Bool.Decides.{nat_tests}
 use Rattle.radix_tree.proofs.OneTable.{table_is}
-use Rattle.arrival_core.specs.Settings.{setting, frame_of}
+use Rattle.arrival_core.specs.Settings.{Setting, setting, frame_of}
+use Rattle.arrival_core.specs.Tasks.{IsTask}
+use Rattle.radix_tree.specs.Fit.{table_of}
 use Rattle.box_handoff.specs.LiveNodes.{splits_of}
 use Rattle.refit.proofs.SameShapes.{same_shape}
 use Rattle.refit.proofs.WholeTrees.{none_value}
-use Rattle.refit.proofs.PutRows.{still_fitted, none_live, node_at_split, node_of_packets, put_more, all_fitted, all_value, task_is}
+use Rattle.refit.proofs.PutRows.{still_fitted, none_live, node_at_split, node_of_packets, put_more, all_fitted, task_is}
 use Rattle.refit.proofs.handing_up.refit.Goals as goal
 
 pub returns-then-is_empty-clause-value : goal.returns-then-is_empty-clause-value
@@ -23,51 +25,39 @@ returns-then-is_empty-2-clause-value g c = table_is c.args.tree.now c.args.boxes
 
 pub put_node-requires : goal.put_node-requires
 put_node-requires g c =
-    let some : 0 < length c.args.tree.now.nodes = grind (arith, nat_tests, ap length c.nodes.ensures.nodes) in
-    let live : 0 < length c.args.live.now = grind (arith, nat_tests) in
-    let task = task_is c.args.tree.now c.nodes.ensures.table c.args.boxes.now c.args.live.now c.args.workers
-    c.requires.boxes c.requires.within c.requires.rising some live c.requires.some in
+    let x : Setting = setting c.args.tree.now.keys c.args.boxes.now c.args.live.now c.args.workers in
+    let task : IsTask x = task_is c.args.tree.now c.nodes.ensures.table c.args.boxes.now c.args.live.now c.args.workers
+    c.requires.boxes c.requires.within c.requires.rising
+    (grind (arith, nat_tests, ap length c.nodes.ensures.nodes)) (grind (arith, nat_tests)) c.requires.some in
     let fits = c.in_ok-fitted.ensures.packets in
-    let lt : c.loop-i.i < length (splits_of (frame_of (setting c.args.tree.now.keys c.args.boxes.now c.args.live.now
-    c.args.workers))) = omega (
-      arith,
-      c.loop-i-test.true,
-      c.len-i-end.ensures,
-      c.in_ok-fitted.fitted.left.ok,
-      fits.left.count_is,
-    ) in
+    let lt : c.loop-i.i < length (splits_of (frame_of x)) =
+    omega (arith, c.loop-i-test.true, c.len-i-end.ensures, c.in_ok-fitted.fitted.left.ok, fits.left.count_is) in
     let l = c.index.ensures ∙ fits.left.each c.loop-i.i c.index.result.now lt in
     let r = c.index-in-loop-i.ensures ∙ fits.right.each c.loop-i.i c.index-in-loop-i.result.now lt in
     record {
       node = (
-        (node_at_split (setting c.args.tree.now.keys c.args.boxes.now c.args.live.now c.args.workers) task c.args.tree.now.nodes c.nodes.ensures.table c.loop-i.i lt).number,
-        node_of_packets (setting c.args.tree.now.keys c.args.boxes.now c.args.live.now c.args.workers) task c.args.tree.now.nodes
-            c.nodes.ensures.table c.in_ok-fitted.fitted fits c.loop-i.tree c.loop-i.i c.loop-i.invariant lt _ _ l r,
+        (node_at_split x task c.args.tree.now.nodes c.nodes.ensures.table c.loop-i.i lt).number,
+        node_of_packets x task c.args.tree.now.nodes c.nodes.ensures.table c.in_ok-fitted.fitted fits c.loop-i.tree
+            c.loop-i.i c.loop-i.invariant lt _ _ l r,
       );
     }
 
 pub loop-i-preserved : goal.loop-i-preserved
 loop-i-preserved g c =
-    let some : 0 < length c.args.tree.now.nodes = grind (arith, nat_tests, ap length c.nodes.ensures.nodes) in
-    let live : 0 < length c.args.live.now = grind (arith, nat_tests) in
-    let task = task_is c.args.tree.now c.nodes.ensures.table c.args.boxes.now c.args.live.now c.args.workers
-    c.requires.boxes c.requires.within c.requires.rising some live c.requires.some in
+    let x : Setting = setting c.args.tree.now.keys c.args.boxes.now c.args.live.now c.args.workers in
+    let task : IsTask x = task_is c.args.tree.now c.nodes.ensures.table c.args.boxes.now c.args.live.now c.args.workers
+    c.requires.boxes c.requires.within c.requires.rising
+    (grind (arith, nat_tests, ap length c.nodes.ensures.nodes)) (grind (arith, nat_tests)) c.requires.some in
     let fits = c.in_ok-fitted.ensures.packets in
-    let lt : c.loop-i.i < length (splits_of (frame_of (setting c.args.tree.now.keys c.args.boxes.now c.args.live.now
-    c.args.workers))) = omega (
-      arith,
-      c.loop-i-test.true,
-      c.len-i-end.ensures,
-      c.in_ok-fitted.fitted.left.ok,
-      fits.left.count_is,
-    ) in
+    let lt : c.loop-i.i < length (splits_of (frame_of x)) =
+    omega (arith, c.loop-i-test.true, c.len-i-end.ensures, c.in_ok-fitted.fitted.left.ok, fits.left.count_is) in
     let l = c.index.ensures ∙ fits.left.each c.loop-i.i c.index.result.now lt in
     let r = c.index-in-loop-i.ensures ∙ fits.right.each c.loop-i.i c.index-in-loop-i.result.now lt in
-    let own = node_of_packets (setting c.args.tree.now.keys c.args.boxes.now c.args.live.now c.args.workers) task c.args.tree.now.nodes
-    c.nodes.ensures.table c.in_ok-fitted.fitted fits c.loop-i.tree c.loop-i.i c.loop-i.invariant lt _ _ l r in
-    put_more (setting c.args.tree.now.keys c.args.boxes.now c.args.live.now c.args.workers) task c.args.tree.now.nodes
-    c.nodes.ensures.table c.in_ok-fitted.fitted fits c.loop-i.tree c.loop-i.i c.loop-i.invariant lt _ _ l r
-    c.put_node.new.tree c.put_node.ensures.keys c.put_node.ensures.table (c.put_node.ensures.nodes _ own)
+    let own = node_of_packets x task c.args.tree.now.nodes c.nodes.ensures.table c.in_ok-fitted.fitted fits
+    c.loop-i.tree c.loop-i.i c.loop-i.invariant lt _ _ l r in
+    put_more x task c.args.tree.now.nodes c.nodes.ensures.table c.in_ok-fitted.fitted fits c.loop-i.tree c.loop-i.i
+    c.loop-i.invariant lt _ _ l r c.put_node.new.tree c.put_node.ensures.keys c.put_node.ensures.table
+    (c.put_node.ensures.nodes _ own)
 
 pub returns-clause-shape : goal.returns-clause-shape
 returns-clause-shape g c = same_shape c.args.tree.now c.loop-i.tree c.nodes.ensures.table c.loop-i.invariant.table
@@ -75,36 +65,17 @@ returns-clause-shape g c = same_shape c.args.tree.now c.loop-i.tree c.nodes.ensu
 
 pub returns-clause-fitted : goal.returns-clause-fitted
 returns-clause-fitted g c =
-    let some : 0 < length c.args.tree.now.nodes = grind (arith, nat_tests, ap length c.nodes.ensures.nodes) in
-    let live : 0 < length c.args.live.now = grind (arith, nat_tests) in
-    let task = task_is c.args.tree.now c.nodes.ensures.table c.args.boxes.now c.args.live.now c.args.workers
-    c.requires.boxes c.requires.within c.requires.rising some live c.requires.some in
+    let x : Setting = setting c.args.tree.now.keys c.args.boxes.now c.args.live.now c.args.workers in
+    let task : IsTask x = task_is c.args.tree.now c.nodes.ensures.table c.args.boxes.now c.args.live.now c.args.workers
+    c.requires.boxes c.requires.within c.requires.rising
+    (grind (arith, nat_tests, ap length c.nodes.ensures.nodes)) (grind (arith, nat_tests)) c.requires.some in
     let fits = c.in_ok-fitted.ensures.packets in
-    let end : length (splits_of (frame_of (setting c.args.tree.now.keys c.args.boxes.now c.args.live.now
-    c.args.workers))) ≤ c.loop-i.i = omega (
-      arith,
-      c.loop-i-test.false,
-      c.len-i-end.ensures,
-      c.in_ok-fitted.fitted.left.ok,
-      fits.left.count_is,
-    ) in
-    all_fitted (setting c.args.tree.now.keys c.args.boxes.now c.args.live.now c.args.workers) task c.args.tree.now.nodes
-    c.nodes.ensures.table c.requires.rest c.loop-i.tree c.loop-i.i c.loop-i.invariant end
+    let end : length (splits_of (frame_of x)) ≤ c.loop-i.i =
+    omega (arith, c.loop-i-test.false, c.len-i-end.ensures, c.in_ok-fitted.fitted.left.ok, fits.left.count_is) in
+    all_fitted x task c.args.tree.now.nodes c.nodes.ensures.table c.requires.rest c.loop-i.tree c.loop-i.i
+    c.loop-i.invariant end
 
 pub returns-clause-value : goal.returns-clause-value
 returns-clause-value g c =
-    let some : 0 < length c.args.tree.now.nodes = grind (arith, nat_tests, ap length c.nodes.ensures.nodes) in
-    let live : 0 < length c.args.live.now = grind (arith, nat_tests) in
-    let task = task_is c.args.tree.now c.nodes.ensures.table c.args.boxes.now c.args.live.now c.args.workers
-    c.requires.boxes c.requires.within c.requires.rising some live c.requires.some in
-    let fits = c.in_ok-fitted.ensures.packets in
-    let end : length (splits_of (frame_of (setting c.args.tree.now.keys c.args.boxes.now c.args.live.now
-    c.args.workers))) ≤ c.loop-i.i = omega (
-      arith,
-      c.loop-i-test.false,
-      c.len-i-end.ensures,
-      c.in_ok-fitted.fitted.left.ok,
-      fits.left.count_is,
-    ) in
-    all_value (setting c.args.tree.now.keys c.args.boxes.now c.args.live.now c.args.workers) task c.args.tree.now.nodes
-    c.nodes.ensures.table c.requires.rest c.loop-i.tree c.loop-i.i c.loop-i.invariant end
+    table_is c.loop-i.tree c.args.boxes.now c.loop-i.invariant.table (returns-clause-fitted g c)
+    ∙ ap (λ ks. table_of ks c.args.boxes.now) c.loop-i.invariant.keys

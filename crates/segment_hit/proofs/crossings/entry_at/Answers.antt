@@ -1,6 +1,6 @@
-use Rattle.std.proofs.Common.{◌∙◌, sym, arith}
+use Rattle.std.proofs.Common.{◌∙◌, sym, arith, refl}
 use Rattle.segment_hit.proofs.Passed.{coordinate_passed, number_passed}
-use Rattle.segment_hit.proofs.LineAxes.{entry_up, entry_down}
+use Rattle.segment_hit.proofs.LineAxes.{ends_up, ends_down}
 use Rattle.segment_hit.specs.declared.line.TheConstants.{SCALE, PRODUCT}
 use Rattle.segment_hit.proofs.crossings.entry_at.Goals as goal
 
@@ -13,7 +13,7 @@ returns-then-a c =
       coordinate_passed c.args.lo c.requires.lo,
       number_passed a.scale SCALE a.scale_small (omega arith),
     ) at c.over.ensures.value)
-    ∙ sym (entry_up a c.args.lo c.args.hi c.if-a.true))
+    ∙ sym (ends_up a c.args.lo c.args.hi _ _ _ refl refl refl c.if-a.true).0)
 
 pub returns : goal.returns
 returns c =
@@ -24,4 +24,4 @@ returns c =
       coordinate_passed c.args.hi c.requires.hi,
       number_passed a.scale SCALE a.scale_small (omega arith),
     ) at c.over-2.ensures.value)
-    ∙ sym (entry_down a c.args.lo c.args.hi c.if-a.false))
+    ∙ sym (ends_down a c.args.lo c.args.hi _ _ _ refl refl refl c.if-a.false).0)

@@ -1,6 +1,6 @@
-use Rattle.std.proofs.Common.{◌∙◌, ◌+◌, sym, arith}
+use Rattle.std.proofs.Common.{◌∙◌, ◌+◌, sym, arith, refl}
 use Rattle.segment_hit.proofs.Passed.{coordinate_passed, number_passed}
-use Rattle.segment_hit.proofs.LineAxes.{exit_up, exit_down}
+use Rattle.segment_hit.proofs.LineAxes.{ends_up, ends_down}
 use Rattle.segment_hit.specs.declared.line.TheConstants.{SCALE, PRODUCT}
 use Rattle.segment_hit.specs.declared.vectors.TheConstants.{SQUARE}
 use Rattle.segment_hit.proofs.crossings.exit_at.Goals as goal
@@ -15,7 +15,7 @@ returns-then-a c =
       number_passed a.scale SCALE a.scale_small (omega arith),
       number_passed a.slack SQUARE a.slack_small (omega arith),
     ) at c.over_and.ensures.value)
-    ∙ sym (exit_up a c.args.lo c.args.hi c.if-a.true))
+    ∙ sym (ends_up a c.args.lo c.args.hi _ _ _ refl refl refl c.if-a.true).1)
 
 pub returns : goal.returns
 returns c =
@@ -27,4 +27,4 @@ returns c =
       number_passed a.scale SCALE a.scale_small (omega arith),
       number_passed a.slack SQUARE a.slack_small (omega arith),
     ) at c.over_and-2.ensures.value)
-    ∙ sym (exit_down a c.args.lo c.args.hi c.if-a.false))
+    ∙ sym (ends_down a c.args.lo c.args.hi _ _ _ refl refl refl c.if-a.false).1)

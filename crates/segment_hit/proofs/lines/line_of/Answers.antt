@@ -1,8 +1,7 @@
-use Rattle.std.proofs.Common.{◌≡◌, ◌*ℤ◌, ap, sym, ◌∙◌, arith}
-use Rattle.segment_hit.specs.declared.vectors.TheConstants.{SPAN, SQUARE}
-use Rattle.std.specs.Prelude.{◌*◌}
+use Rattle.std.proofs.Common.{arith}
+use Rattle.segment_hit.specs.declared.vectors.TheConstants.{SPAN}
 use Rattle.segment_hit.proofs.Passed.{number_passed}
-use Rattle.segment_hit.proofs.Passages.{second_first, third_first, axis_passed}
+use Rattle.segment_hit.proofs.Passages.{whole_second, whole_third, axis_passed}
 use Rattle.segment_hit.proofs.lines.line_of.Goals as goal
 
 pub axis_of-on_x-requires-clause-way : goal.axis_of-on_x-requires-clause-way
@@ -19,33 +18,17 @@ axis_of-on_z-requires-clause-way c =
 
 pub axis_of-on_y-requires-clause-whole : goal.axis_of-on_y-requires-clause-whole
 axis_of-on_y-requires-clause-whole c =
-    let x = number_passed c.way-x.result SPAN c.way-x.ensures.small (omega arith) in
-    let y = number_passed c.way-y.result SPAN c.way-y.ensures.small (omega arith) in
-    let z = number_passed c.way-z.result SPAN c.way-z.ensures.small (omega arith) in
-    let yz = number_passed c.product-yz.result (SPAN * SPAN) c.product-yz.ensures.size (omega arith) in
-    let xz = number_passed c.product-xz.result (SPAN * SPAN) c.product-xz.ensures.size (omega arith) in
-    let whole = number_passed c.product-whole.result (SPAN * SQUARE) c.product-whole.ensures.size (omega arith) in
-    let value = rw (x, yz) at c.product-whole.ensures.value in
-    let own = rw (y, z) at c.product-yz.ensures.value in
-    let other = rw (x, z) at c.product-xz.ensures.value in
-    rw (whole, y, xz)
-    (value ∙ (ap (λ m. c.way-x.result *ℤ m) own
-    ∙ (second_first c.way-x.result c.way-y.result c.way-z.result ∙ sym (ap (λ m. c.way-y.result *ℤ m) other))))
+    whole_second c.way-x.result c.way-y.result c.way-z.result c.product-yz.result c.product-whole.result c.way-x.ensures.small
+    c.way-y.ensures.small c.way-z.ensures.small c.product-yz.ensures.size c.product-whole.ensures.size
+    c.product-yz.ensures.value c.product-whole.ensures.value c.product-xz.result c.product-xz.ensures.size
+    c.product-xz.ensures.value
 
 pub axis_of-on_z-requires-clause-whole : goal.axis_of-on_z-requires-clause-whole
 axis_of-on_z-requires-clause-whole c =
-    let x = number_passed c.way-x.result SPAN c.way-x.ensures.small (omega arith) in
-    let y = number_passed c.way-y.result SPAN c.way-y.ensures.small (omega arith) in
-    let z = number_passed c.way-z.result SPAN c.way-z.ensures.small (omega arith) in
-    let yz = number_passed c.product-yz.result (SPAN * SPAN) c.product-yz.ensures.size (omega arith) in
-    let xy = number_passed c.product-xy.result (SPAN * SPAN) c.product-xy.ensures.size (omega arith) in
-    let whole = number_passed c.product-whole.result (SPAN * SQUARE) c.product-whole.ensures.size (omega arith) in
-    let value = rw (x, yz) at c.product-whole.ensures.value in
-    let own = rw (y, z) at c.product-yz.ensures.value in
-    let other = rw (x, y) at c.product-xy.ensures.value in
-    rw (whole, z, xy)
-    (value ∙ (ap (λ m. c.way-x.result *ℤ m) own
-    ∙ (third_first c.way-x.result c.way-y.result c.way-z.result ∙ sym (ap (λ m. c.way-z.result *ℤ m) other))))
+    whole_third c.way-x.result c.way-y.result c.way-z.result c.product-yz.result c.product-whole.result c.way-x.ensures.small
+    c.way-y.ensures.small c.way-z.ensures.small c.product-yz.ensures.size c.product-whole.ensures.size
+    c.product-yz.ensures.value c.product-whole.ensures.value c.product-xy.result c.product-xy.ensures.size
+    c.product-xy.ensures.value
 
 pub returns : goal.returns
 returns c = record {

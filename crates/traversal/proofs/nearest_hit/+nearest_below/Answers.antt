@@ -5,7 +5,7 @@ use Rattle.radix_tree.specs.Filling.{IsChild}
 use Rattle.traversal.specs.Nearing.{StandsIn}
 use Rattle.traversal.proofs.Leaves.{read_is, from_one, has_box}
 use Rattle.traversal.proofs.Walking.{at_node, left_is_child, right_is_child}
-use Rattle.traversal.proofs.NearestWalk.{leaf_seen, missed_over, far_over, is_side, swapped, in_order, side_is_child, side_falls, side_screens, both_seen}
+use Rattle.traversal.proofs.NearestWalk.{leaf_seen, missed_over, far_over, is_side, swapped, in_order, side_goes, both_seen}
 use Rattle.traversal.proofs.nearest_hit.+nearest_below.Goals as goal
 
 pub returns-in_default : goal.returns-in_default
@@ -65,57 +65,47 @@ pub nearest_below-nearer-requires : goal.nearest_below-nearer-requires
 nearest_below-nearer-requires g t c κs within =
     let tree = c.args.t.now in
     let tris = g.S.Triangles.list c.args.tris.now in
-    let p = c.args.p in
-    let q = c.args.q in
     let r = c.requires in
     let here = at_node tree (map tri_box tris) c.args.way.child c.in-Inner.number r.table r.fitted r.child
     c.in-Inner.is in
     let l = c.approach_to-on_left in
     let m = c.approach_to-on_right in
-    let sides = in_order tree tris p q c.in_order.result.0 c.in_order.result.1 l.result m.result _ _ _
-    (is_side tree tris p q l.result c.left.result _ _ l.ensures.child c.left.ensures l.ensures.screens)
-    (is_side tree tris p q m.result c.right.result _ _ m.ensures.child c.right.ensures m.ensures.screens)
+    let sides = in_order tree tris c.args.p c.args.q c.in_order.result.0 c.in_order.result.1 l.result m.result _ _ _
+    (is_side tree tris c.args.p c.args.q l.result c.left.result _ _ l.ensures.child c.left.ensures l.ensures.screens)
+    (is_side tree tris c.args.p c.args.q m.result c.right.result _ _ m.ensures.child c.right.ensures m.ensures.screens)
     c.in_order.ensures in
-    let falls = side_falls tree tris p q here c.in_order.result.0 c.in_order.result.1 sides in
-    let child = side_is_child tree tris p q here c.in_order.result.0 c.in_order.result.1 sides in
-    let screens = side_screens tree tris p q here c.in_order.result.0 c.in_order.result.1 sides in
-    (omega (arith, falls), (within, (r.table, (r.fitted, (r.tris, (r.p, (r.q, (child, screens))))))))
+    let goes = side_goes tree tris c.args.p c.args.q here c.in_order.result.0 c.in_order.result.1 sides in
+    (omega (arith, goes.falls), (within, (r.table, (r.fitted, (r.tris, (r.p, (r.q, (goes.stands, goes.screens))))))))
 
 pub nearest_below-requires : goal.nearest_below-requires
 nearest_below-requires g t c κs within =
     let tree = c.args.t.now in
     let tris = g.S.Triangles.list c.args.tris.now in
-    let p = c.args.p in
-    let q = c.args.q in
     let r = c.requires in
     let here = at_node tree (map tri_box tris) c.args.way.child c.in-Inner.number r.table r.fitted r.child
     c.in-Inner.is in
     let l = c.approach_to-on_left in
     let m = c.approach_to-on_right in
-    let sides = swapped tree tris p q c.in_order.result.0 c.in_order.result.1 _ _ _
-    (in_order tree tris p q c.in_order.result.0 c.in_order.result.1 l.result m.result _ _ _
-    (is_side tree tris p q l.result c.left.result _ _ l.ensures.child c.left.ensures l.ensures.screens)
-    (is_side tree tris p q m.result c.right.result _ _ m.ensures.child c.right.ensures m.ensures.screens)
+    let sides = swapped tree tris c.args.p c.args.q c.in_order.result.0 c.in_order.result.1 _ _ _
+    (in_order tree tris c.args.p c.args.q c.in_order.result.0 c.in_order.result.1 l.result m.result _ _ _
+    (is_side tree tris c.args.p c.args.q l.result c.left.result _ _ l.ensures.child c.left.ensures l.ensures.screens)
+    (is_side tree tris c.args.p c.args.q m.result c.right.result _ _ m.ensures.child c.right.ensures m.ensures.screens)
     c.in_order.ensures) in
-    let falls = side_falls tree tris p q here c.in_order.result.1 c.in_order.result.0 sides in
-    let child = side_is_child tree tris p q here c.in_order.result.1 c.in_order.result.0 sides in
-    let screens = side_screens tree tris p q here c.in_order.result.1 c.in_order.result.0 sides in
-    (omega (arith, falls), (within, (r.table, (r.fitted, (r.tris, (r.p, (r.q, (child, screens))))))))
+    let goes = side_goes tree tris c.args.p c.args.q here c.in_order.result.1 c.in_order.result.0 sides in
+    (omega (arith, goes.falls), (within, (r.table, (r.fitted, (r.tris, (r.p, (r.q, (goes.stands, goes.screens))))))))
 
 pub returns-in-Inner : goal.returns-in-Inner
 returns-in-Inner g t c =
     let tree = c.args.t.now in
     let tris = g.S.Triangles.list c.args.tris.now in
-    let p = c.args.p in
-    let q = c.args.q in
     let r = c.requires in
     let here = at_node tree (map tri_box tris) c.args.way.child c.in-Inner.number r.table r.fitted r.child
     c.in-Inner.is in
     let l = c.approach_to-on_left in
     let m = c.approach_to-on_right in
-    let sides = in_order tree tris p q c.in_order.result.0 c.in_order.result.1 l.result m.result _ _ _
-    (is_side tree tris p q l.result c.left.result _ _ l.ensures.child c.left.ensures l.ensures.screens)
-    (is_side tree tris p q m.result c.right.result _ _ m.ensures.child c.right.ensures m.ensures.screens)
+    let sides = in_order tree tris c.args.p c.args.q c.in_order.result.0 c.in_order.result.1 l.result m.result _ _ _
+    (is_side tree tris c.args.p c.args.q l.result c.left.result _ _ l.ensures.child c.left.ensures l.ensures.screens)
+    (is_side tree tris c.args.p c.args.q m.result c.right.result _ _ m.ensures.child c.right.ensures m.ensures.screens)
     c.in_order.ensures in
-    both_seen tree tris p q here c.in_order.result.0 c.in_order.result.1 sides c.args.best
+    both_seen tree tris c.args.p c.args.q here c.in_order.result.0 c.in_order.result.1 sides c.args.best
     c.nearest_below-nearer.result c.nearest_below.result c.nearest_below-nearer.ensures c.nearest_below.ensures
