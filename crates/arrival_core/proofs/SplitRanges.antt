@@ -33,6 +33,7 @@ module _ (x : Setting) (ok : IsTask x) where
   node_of t lt = named x.keys ok.lawful t (omega arith)
 
   module _ (t : ℕ) (lt : t < length x.keys - 1) where
+    -- its row has its number, its range and its split
     pub row_is : row_of x.keys t ≡ record {
       number = (node_of t lt).number;
       first = (node_of t lt).first;
@@ -41,48 +42,60 @@ module _ (x : Setting) (ok : IsTask x) where
     }
     row_is = ap (row_of x.keys) (sym (node_of t lt).parts) ∙ row_of_is x.keys ok.lawful (node_of t lt).node
 
+    -- the row begins where the node does
     pub first_is : (row_of x.keys t).first ≡ (node_of t lt).first
     first_is = ap (λ r. r.first) row_is
 
+    -- and ends where it does
     pub last_is : (row_of x.keys t).last ≡ (node_of t lt).last
     last_is = ap (λ r. r.last) row_is
 
+    -- its left child is what stands over the positions to its split
     pub left_is : child_of x.keys t Left ≡ below x.keys (node_of t lt).first t
     left_is = subst (λ z. child_of x.keys z Left ≡ below x.keys (node_of t lt).first z) (node_of t lt).parts
         (child_left x.keys ok.lawful (node_of t lt).node)
 
+    -- its right child is what stands over those behind it
     pub right_is : child_of x.keys t Right ≡ below x.keys (suc t) (node_of t lt).last
     right_is = subst (λ z. child_of x.keys z Right ≡ below x.keys (suc z) (node_of t lt).last) (node_of t lt).parts
         (child_right x.keys ok.lawful (node_of t lt).node)
 
+    -- these positions are a range
     pub left_range : IsRange x.keys (node_of t lt).first t
     left_range = left (range_of_node x.keys ok.lawful (node_of t lt).node)
         (proper x.keys ok.lawful (node_of t lt).node) (node_of t lt).parts
 
+    -- and so are those
     pub right_range : IsRange x.keys (suc t) (node_of t lt).last
     right_range = right (range_of_node x.keys ok.lawful (node_of t lt).node)
         (proper x.keys ok.lawful (node_of t lt).node) (node_of t lt).parts
 
+    -- its split lies in its range
     pub low : (node_of t lt).first ≤ t
     low = omega (arith, split_low x.keys ok.lawful (node_of t lt).node, (node_of t lt).parts)
 
+    -- before the end
     pub high : t < (node_of t lt).last
     high = omega (arith, split_high x.keys ok.lawful (node_of t lt).node, (node_of t lt).parts)
 
+    -- and its range among the keys
     pub within : (node_of t lt).last < length x.keys
     within = node_within x.keys ok.lawful (node_of t lt).node
 
   -- the packet and the liveness of what has a range
   module _ (a b : ℕ) (r : IsRange x.keys a b) where
+    -- a range has a position
     pub order : a ≤ b
     order = (range_laws x.keys ok.lawful r).order
 
+    -- the row of its split has the range
     pub row_of_range : (lt : a < b) → ((row_of x.keys (split x.keys a b)).first ≡ a)
         × ((row_of x.keys (split x.keys a b)).last ≡ b)
     row_of_range lt =
         let d = row_of_is x.keys ok.lawful (range_node x.keys ok.lawful r lt).1 in
         (ap (λ z. z.first) d, ap (λ z. z.last) d)
 
+    -- the packet has the range, and the least box round its triangles
     pub packet_of_range : IsPacketOf x.boxes x.keys a b (packet_below (frame_of x) (below x.keys a b))
     unfolding frame_of packet_below
     packet_of_range = elim (cases_eq a b) [
@@ -104,6 +117,7 @@ module _ (x : Setting) (ok : IsTask x) where
           })
     ]
 
+    -- it is live where a position of the range is
     pub live_of_range : live_below (frame_of x) (below x.keys a b) ≡ live_in x.live a b
     unfolding frame_of live_below
     live_of_range = elim (cases_eq a b) [

@@ -8,10 +8,12 @@ use Rattle.fixed_box.specs.Boxes.{Meets}
 use Rattle.fixed_box.specs.Extent.{crosses, boxes_meet}
 use Rattle.fixed_box.proofs.ByCorners.{AreCrossed, meets_by_corners}
 
+-- both tests hold where their conjunction does
 both_true : (x y : Bool) → IsTrue (x && y) ↔ (IsTrue x × IsTrue y)
 both_true true y = (λ p. (refl, p), λ p. p.1)
 both_true false y = (λ p. (p, cc), λ p. p.0)
 
+-- a test that holds is true
 is_true : (b : Bool) → T b → b ≡ true
 is_true true t = refl
 is_true false t = absurd t

@@ -59,6 +59,7 @@ rising-append xs ys p q lt first then below above = λ i j d before inside.
 lists_left : (xs ys : List Cell) (p : ℕ) → Lists xs p → Lists (xs ++ ys) p
 lists_left xs ys p (cell, inside, e) = (cell, Contains-append_left xs ys cell inside, e)
 
+-- and what it goes on with
 lists_right : (xs ys : List Cell) (p : ℕ) → Lists ys p → Lists (xs ++ ys) p
 lists_right xs ys p (cell, inside, e) = (cell, Contains-append_right xs ys cell inside, e)
 
@@ -97,6 +98,7 @@ module _ (keys : List Key) (ok : IsLawful keys) (level : ℕ) (deep : level ≤ 
         | inr le ↦ le
       ]
 
+  -- a run of two or more keys has one cell
   of_run : (a b : ℕ) → IsRun keys level a b → a < b → AreCellsIn a b (cell_over keys level a b ∷ [])
   unfolding cell_over
   of_run a b run lt = record {
@@ -159,6 +161,7 @@ module _ (keys : List Key) (ok : IsLawful keys) (level : ℕ) (deep : level ≤ 
             (λ c le. omega (arith, le, prefix_le keys ok level deep s b (omega arith) h)) xs left.high) right.high;
       }
 
+  -- the cells of a key that stands alone are right
   of_single : (a b : ℕ) → a ≡ b → b < length keys → IsApart keys level a b →
       AreCellsIn a b (cells_in keys level a b)
   of_single a b e h apart =
@@ -191,6 +194,7 @@ module _ (keys : List Key) (ok : IsLawful keys) (level : ℕ) (deep : level ≤ 
         ]
   ]
 
+  -- where no key is there, no cell is
   none_are_cells : length keys ≡ 0 → AreCells keys level []
   none_are_cells none = record {
     each = All-nil (IsCell keys level);
@@ -198,6 +202,7 @@ module _ (keys : List Key) (ok : IsLawful keys) (level : ℕ) (deep : level ≤ 
     rising = λ i j d before inside. absurd (omega arith);
   }
 
+  -- the cells of the whole range are the cells of the keys
   some_are_cells : (list : List Cell) → 0 < length keys → AreCellsIn 0 (length keys - 1) list → AreCells keys level list
   some_are_cells list some has = record {
     each = has.each;

@@ -51,6 +51,7 @@ module _ (keys : List Key) (ok : IsLawful keys) (level : ℕ) (deep : level ≤ 
         prefix_le keys ok level deep (suc b) i lt h,
       ))
 
+  -- a key has the prefix of the run
   abbrev has_it : Key → Bool
   has_it = λ k. prefix_of level k.code == prefix_at keys level a
 
@@ -110,6 +111,7 @@ module _ (keys : List Key) (ok : IsLawful keys) (level : ℕ) (deep : level ≤ 
   abbrev had_by_two : ℕ → Bool
   had_by_two i = nat_lt 1 (keys_with level (prefix_at keys level i) keys)
 
+  -- and no earlier key has it
   abbrev new_at : ℕ → Bool
   new_at i = keys_with level (prefix_at keys level i) (take i keys) == 0
 
@@ -136,6 +138,7 @@ module _ (keys : List Key) (ok : IsLawful keys) (level : ℕ) (deep : level ≤ 
       and_right (had_by_two i) (new_at i)
       (ne_eqb (keys_with level (prefix_at keys level i) (take i keys)) 0 (λ none. omega (arith, none, same, earlier)))
 
+  -- so no cell begins behind the first key
   later_none : (i count : ℕ) → a < i → i + count ≤ suc b → cells_from keys level i count ≡ []
   unfolding cells_from
   later_none i zero lt le = refl
@@ -144,6 +147,7 @@ module _ (keys : List Key) (ok : IsLawful keys) (level : ℕ) (deep : level ≤ 
       (cond-false (is_cell_at keys level i) (cell_at keys level i ∷ []) [] (begun_before i lt (omega arith)))
       ∙ later_none (suc i) count (omega arith) (omega arith)
 
+  -- the cells of the range are the one that its first key begins, if it does
   first_then : cells_in keys level a b
       ≡ cond (is_cell_at keys level a) (cell_at keys level a ∷ []) [] ++ []
   unfolding cells_in cells_from
@@ -152,6 +156,7 @@ module _ (keys : List Key) (ok : IsLawful keys) (level : ℕ) (deep : level ≤ 
       ∙ ap (λ xs. cond (is_cell_at keys level a) (cell_at keys level a ∷ []) [] ++ xs)
       (later_none (suc a) (b - a) (omega arith) (omega (arith, run.order)))
 
+  -- that cell is the cell over the range
   cell_is : cell_at keys level a ≡ cell_over keys level a b
   unfolding cell_at cell_over
   cell_is = ap (λ z. record { level = level; prefix = prefix_at keys level a; first = a; last = z })

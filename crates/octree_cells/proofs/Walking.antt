@@ -78,9 +78,11 @@ module _ (t : Contents) (table : IsTable t) (level : ℕ) (deep : level ≤ LEVE
       ∙ append-nil before)
 
   module _ (k : ℕ) (inside : k < length t.nodes) where
+    -- the node of that number
     abbrev node : Node
     node = node_at t.nodes k
 
+    -- its range lies among the keys, and its split in it
     parted : IsParted t.keys node
     parted =
         let row = table.each k inside in
@@ -98,6 +100,7 @@ module _ (t : Contents) (table : IsTable t) (level : ℕ) (deep : level ≤ LEVE
     pub first_within : (x : Node) → x ≡ node → x.first < length t.keys
     first_within x e = omega (arith, ap (λ y. y.first) e, parted.low, parted.high, parted.within)
 
+    -- to its end
     pub last_within : (x : Node) → x ≡ node → x.last < length t.keys
     last_within x e = omega (arith, ap (λ y. y.last) e, parted.within)
 
@@ -112,6 +115,7 @@ module _ (t : Contents) (table : IsTable t) (level : ℕ) (deep : level ≤ LEVE
         cell_over t.keys level x.first x.last ≡ cell_over t.keys level node.first node.last
     read_cell x e = ap (λ y. cell_over t.keys level y.first y.last) e
 
+    -- its split is that of its range
     split_is : split t.keys node.first node.last ≡ node.split
     split_is = sym (table.each k inside).part
 

@@ -27,6 +27,7 @@ module _ (t : Contents) (table : IsTable t) where
   range_at : (k : ℕ) → k < length t.nodes → IsNode t.keys k (node_at t.nodes k).first (node_at t.nodes k).last
   range_at k lt = (table.each k lt).range
 
+  -- its split is that of its range
   split_at : (k : ℕ) → k < length t.nodes →
       (node_at t.nodes k).split ≡ split t.keys (node_at t.nodes k).first (node_at t.nodes k).last
   split_at k lt = (table.each k lt).part
@@ -35,9 +36,11 @@ module _ (t : Contents) (table : IsTable t) where
   pub low_at : (k : ℕ) → k < length t.nodes → (node_at t.nodes k).first ≤ (node_at t.nodes k).split
   low_at k lt = omega (arith, split_at k lt, split_low t.keys table.lawful (range_at k lt))
 
+  -- before the end
   pub high_at : (k : ℕ) → k < length t.nodes → (node_at t.nodes k).split < (node_at t.nodes k).last
   high_at k lt = omega (arith, split_at k lt, split_high t.keys table.lawful (range_at k lt))
 
+  -- and the range among the keys
   pub last_at : (k : ℕ) → k < length t.nodes → (node_at t.nodes k).last < length t.keys
   last_at k lt = node_within t.keys table.lawful (range_at k lt)
 
@@ -60,6 +63,7 @@ module _ (t : Contents) (table : IsTable t) where
       subst (λ z. IsNode t.keys z (node_at t.nodes k).first (node_at t.nodes k).split) (sym (ap (λ y. y.split) e))
       (left_at k lt (λ same. ne (ap (λ y. y.first) e ∙ (same ∙ sym (ap (λ y. y.split) e)))))
 
+  -- and the right one
   pub right_of_read : (k : ℕ) (x : Node) → k < length t.nodes → x ≡ node_at t.nodes k → x.split + 1 ≢ x.last →
       IsNode t.keys (x.split + 1) ((node_at t.nodes k).split + 1) (node_at t.nodes k).last
   right_of_read k x lt e ne =
@@ -71,6 +75,7 @@ module _ (t : Contents) (table : IsTable t) where
   pub split_below_last : (k : ℕ) (x : Node) → k < length t.nodes → x ≡ node_at t.nodes k → x.split < x.last
   split_below_last k x lt e = omega (arith, ap (λ y. y.split) e, ap (λ y. y.last) e, high_at k lt)
 
+  -- so the position behind it is no larger than its type
   pub split_small : (k : ℕ) (x : Node) → k < length t.nodes → x ≡ node_at t.nodes k → x.split + 1 < 2 ^ 32
   split_small k x lt e = omega (arith, ap (λ y. y.split) e, high_at k lt, last_at k lt, table.lawful.few)
 

@@ -62,6 +62,7 @@ module _ (keys : List Key) (boxes : List Box3) where
     pub table : IsTable (record { keys = keys; nodes = nodes })
     pub fitted : IsFitted (record { keys = keys; nodes = nodes }) boxes
 
+  -- a list with a full row at each number is a fitted table
   pub full_from_rows : (nodes : List Node) → IsLawful keys → length boxes ≡ length keys →
       length nodes ≡ length keys - 1 →
       ((k : ℕ) → k < length nodes → HasRow keys boxes nodes k) → IsFull nodes

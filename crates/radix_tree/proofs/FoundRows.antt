@@ -13,10 +13,12 @@ same_row i a b s j c d u e f g h = cc
 pub contains_head : (y : Row) (ys : List Row) → Contains (y ∷ ys) y
 contains_head y ys = (0, omega arith, refl)
 
+-- what a list contains is its head or in its tail
 pub contains_tail : (y x : Row) (ys : List Row) → Contains (y ∷ ys) x → (y ≡ x) ⊎ Contains ys x
 contains_tail y x ys (zero, lt, e) = inl e
 contains_tail y x ys (suc k, lt, e) = inr (k, omega arith, e)
 
+-- and what its tail contains it does
 pub contains_more : (y x : Row) (ys : List Row) → Contains ys x → Contains (y ∷ ys) x
 contains_more y x ys (k, lt, e) = (suc k, omega arith, e)
 

@@ -33,6 +33,7 @@ unfolding shape_in
 height_le_span keys a b = grown_height keys (b - a) a b
 
 module _ (keys : List Key) (ok : IsLawful keys) where
+  -- a range of two or more is one node higher than the higher of its parts
   height_at_split : (a b : ℕ) → a < b → b < length keys →
       height_of (shape_in keys a b) ≡ suc
       (max (height_of (shape_in keys a (split keys a b))) (height_of (shape_in keys (suc (split keys a b)) b)))

@@ -11,6 +11,7 @@ pub record LastClear (t : ℕ → ℕ) (k a b s : ℕ) : Type 0 where
   pub clear : bit_at (t s) k ≡ 0
   pub set_after : (p : ℕ) → s < p → p ≤ b → bit_at (t p) k ≢ 0
 
+-- the search back from the end finds it
 pub last_clear_is : (t : ℕ → ℕ) (k a b : ℕ) → a ≤ b → bit_at (t a) k ≡ 0 → LastClear t k a b (last_clear t k b)
 unfolding last_clear
 last_clear_is t k a zero le clear =

@@ -60,6 +60,7 @@ module _ (keys : List Key) (ok : IsLawful keys) where
       gap_first : {c : ℕ} → a ≡ c → gap keys (a - 1) a ≡ gap keys (c - 1) c
       gap_first e = ap (λ z. gap keys (z - 1) z) e
 
+  -- the same at the other end
   pub is_last : (a b : ℕ) → a < b → suc b < length keys → gap keys a b < gap keys b (suc b) →
       (0 < a → gap keys b (suc b) ≤ gap keys (a - 1) b) → IsNode keys b a b
   is_last a b lt h after before =

@@ -53,6 +53,7 @@ module _ (keys : List Key) (ok : IsLawful keys) where
   pub split_low : {i a b : ℕ} → IsNode keys i a b → a ≤ split keys a b
   split_low {i} {a} {b} d = (split_laws keys ok a b (split keys a b) (proper keys ok d) (node_within d) refl).low
 
+  -- before the end
   pub split_high : {i a b : ℕ} → IsNode keys i a b → split keys a b < b
   split_high {i} {a} {b} d = (split_laws keys ok a b (split keys a b) (proper keys ok d) (node_within d) refl).high
 

@@ -12,11 +12,13 @@ use Rattle.radix_tree.proofs.SplitLaws.{split_laws}
 use Rattle.radix_tree.proofs.RangeLaws.{range_laws}
 
 module _ (keys : List Key) (ok : IsLawful keys) where
+  -- a node has two keys or more
   pub proper : {i a b : ℕ} → IsNode keys i a b → a < b
   proper (root lt e) = lt
   proper (left_of d e lt) = lt
   proper (right_of d e lt) = lt
 
+  -- its range is one of the recursion
   pub range_of_node : {i a b : ℕ} → IsNode keys i a b → IsRange keys a b
   range_of_node (root lt e) = whole e
   range_of_node (left_of {a = a} {b = b} {s = s} d e lt) = left (range_of_node d) (proper d) e
@@ -36,6 +38,7 @@ module _ (keys : List Key) (ok : IsLawful keys) where
     pub after : gap keys a b < gap keys b (suc b)
     pub before : 0 < a → gap keys b (suc b) < gap keys (a - 1) a
 
+  -- its number is the first or the last position of its range
   pub kind : {i a b : ℕ} → IsNode keys i a b → IsFirst i a b ⊎ IsLast i a b
   kind (root lt e) =
       inl (record {
@@ -91,6 +94,7 @@ module _ (keys : List Key) (ok : IsLawful keys) where
         ]
   ]
 
+  -- each number is that of a node
   pub node_at : (i : ℕ) → suc i < length keys → Range i
   node_at i h = let e : suc (length keys - 1) ≡ length keys = omega arith in
       found (length keys - 1) 0 0 (length keys - 1) i (omega arith) (root (omega arith) e) (omega arith) (omega arith)

@@ -17,6 +17,7 @@ use Rattle.radix_tree.proofs.FitLaws.{boxes_in-one, boxes_in-parted}
 
 -- ---- boxes
 
+-- the joined box of a list is its least
 joined-is_least : (b : Box3) (bs : List Box3) → IsLeastBox (b ∷ bs) (joined b bs)
 unfolding joined
 joined-is_least b [] = least_of_one b
@@ -39,6 +40,7 @@ least_box_of-is_least boxes keys a b lt h =
 
 -- ---- nodes
 
+-- as many nodes are made as are asked for
 length-nodes_from : (keys : List Key) (boxes : List Box3) (k count : ℕ) →
     length (nodes_from keys boxes k count) ≡ count
 unfolding nodes_from
@@ -60,6 +62,7 @@ same_from_rows keys boxes (x ∷ xs) k rows =
     rows (suc j) (omega arith) ∙ ap (λ z. node_of_row keys boxes (row_at keys z)) next) in
     ap (λ z. z ∷ xs) first ∙ ap (λ zs. node_of_row keys boxes (row_at keys k) ∷ zs) rest
 
+-- a node is known by its parts
 same_node : (x : Node) (a b s : ℕ) (fit : Box3) → x.first ≡ a → x.last ≡ b → x.split ≡ s → x.fit ≡ fit →
     x ≡ record { first = a; last = b; split = s; fit = fit }
 same_node x a b s fit e f g h =

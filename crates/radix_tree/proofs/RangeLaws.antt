@@ -15,6 +15,7 @@ module _ (keys : List Key) (ok : IsLawful keys) where
     pub before : 0 < a → gap keys a b < gap keys (a - 1) a
     pub after : suc b < length keys → gap keys a b < gap keys b (suc b)
 
+  -- what stands beside a range differs from it higher up than its ends do
   pub range_laws : {a b : ℕ} → IsRange keys a b → RangeLaws a b
   range_laws (whole e) = record {
     order = omega arith;
@@ -48,6 +49,7 @@ module _ (keys : List Key) (ok : IsLawful keys) where
     right_child : {p : ℕ} → IsRange keys p b → p < b → split keys p b ≡ a - 1 → 0 < a →
         (suc b < length keys → gap keys (a - 1) a < gap keys b (suc b)) → Parent a b
 
+  -- so the nearer neighbour names the parent
   pub parent_law : {a b : ℕ} → IsRange keys a b → ((a ≡ 0 → suc b ≡ length keys → ⊥)) → Parent a b
   parent_law (whole e) not_whole = absurd (not_whole refl e)
   parent_law (left {a = a} {b = b} {s = s} r lt e) not_whole =

@@ -53,6 +53,7 @@ table_with_box_at keys nodes k x fit lt e t =
     (sym (node_is nodes k x lt e))
     (table_with_box keys nodes k fit lt t)
 
+-- a box that is written at a number changes that node alone
 pub put_at : (items nodes : List Node) (k : ℕ) (x : Node) (fit : Box3) → items ≡ nodes → k < length nodes →
     x ≡ get_or items k x →
     set items k (record x { fit = fit }) ≡ set nodes k (record (node_at nodes k) { fit = fit })

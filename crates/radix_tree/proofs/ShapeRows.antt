@@ -16,9 +16,11 @@ use Rattle.radix_tree.proofs.ShapeLaws.{grown-fork}
 use Rattle.radix_tree.proofs.FoundRows.{same_row, find_only, found_in}
 
 module _ (keys : List Key) (ok : IsLawful keys) where
+  -- the row of a node with that range
   abbrev row_of : ℕ → ℕ → ℕ → Row
   row_of i a b = record { number = i; first = a; last = b; split = split keys a b }
 
+  -- the rows of a range are its own, those of its left part and those of its right part
   rows-fork : (f i a b : ℕ) → a < b →
       rows i (grown keys (suc f) a b) ≡ row_of i a
       b ∷ (rows (split keys a b) (grown keys f a (split keys a b)) ++ rows (suc (split keys a b))
@@ -32,6 +34,7 @@ module _ (keys : List Key) (ok : IsLawful keys) where
     pub enough : b ≤ a + suc fuel
     pub inside : (r : Row) → Contains (rows i (grown keys (suc fuel) a b)) r → Contains (rows 0 (shape_of keys)) r
 
+  -- each node has its row in the table
   in_table : {i a b : ℕ} → IsNode keys i a b → InTable i a b
   unfolding shape_of shape_in
   in_table (root {b = b} lt e) =
@@ -89,17 +92,21 @@ module _ (keys : List Key) (ok : IsLawful keys) where
     pub node : IsNode keys r.number r.first r.last
     pub split_is : r.split ≡ split keys r.first r.last
 
+  -- an empty list contains nothing
   pub empty_has_none : (r : Row) (Q : Type 0) → Contains [] r → Q
   empty_has_none r Q (k, lt, e) = absurd (omega arith)
 
+  -- a list of one row contains that row alone
   one_has_one : (x r : Row) → Contains (x ∷ []) r → x ≡ r
   one_has_one x r (zero, lt, e) = e
   one_has_one x r (suc k, lt, e) = absurd (omega arith)
 
+  -- a leaf has no row
   leaf_has_none : (i p : ℕ) (r : Row) → Contains (rows i (leaf p)) r → Holds r
   unfolding rows
   leaf_has_none i p r h = empty_has_none r (Holds r) h
 
+  -- each row below a node is that of a node
   pub node_from_table : (f i a b : ℕ) → a ≤ b → b < length keys → (a < b → IsNode keys i a b) → (r : Row) →
       Contains (rows i (grown keys f a b)) r → Holds r
   unfolding grown
@@ -135,6 +142,7 @@ module _ (keys : List Key) (ok : IsLawful keys) where
   row_in_tree more r c = node_from_table (length keys - 1 - 0) 0 0 (length keys - 1) (omega arith) (omega arith)
       (λ lt. root lt (omega arith)) r c
 
+  -- so is each row of the tree
   pub row_in_any_tree : (r : Row) → Contains (rows 0 (shape_of keys)) r → Holds r
   row_in_any_tree r c = elim (cases_lt 1 (length keys)) [
     | inl more ↦ row_in_tree more r c

@@ -55,6 +55,7 @@ module _ (keys : List Key) (ok : IsLawful keys) where
     pub right_same : tag keys (suc s) / 2 ^ m ≡ tag keys b / 2 ^ m
     pub next : tag keys b / 2 ^ m ≡ suc (tag keys a / 2 ^ m)
 
+  -- where the last clear bit is found, the range is parted there
   parted_at : (a b s m : ℕ) → a < b → b < length keys → gap keys a b ≡ suc m → LastClear (tag keys) m a b s →
       bit_at (tag keys a) m ≡ 0 → tag keys b / 2 ^ m ≡ suc (tag keys a / 2 ^ m) → Parted a b s m
   parted_at a b s m lt h is_gap l clear next =
@@ -78,6 +79,7 @@ module _ (keys : List Key) (ok : IsLawful keys) where
         next = next;
       }
 
+  -- so the split parts a range
   pub parted : (a b : ℕ) → a < b → b < length keys → Parted a b (split_by (tag keys) a b) (gap keys a b - 1)
   unfolding split_by
   parted a b lt h =

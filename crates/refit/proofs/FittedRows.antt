@@ -54,9 +54,11 @@ module _ {t u v : Contents} {boxes : List Box3} {number : ℕ} {first second : C
       subst (λ z. IsLeastBox (boxes_in boxes t.keys a z) fit) same.2
       (subst (λ z. IsLeastBox (boxes_in boxes t.keys z x.last) fit) same.1 here)
 
+  -- the later tree has a node of that number
   inside : number < length u.nodes
   inside = omega (arith, h.kids.inside, h.table.count, h.later.count, ap length h.keys)
 
+  -- its row is full with that box
   row : IsFullRow t.keys boxes number (record (node_at u.nodes number) { fit = fit })
   row =
       let x = node_at u.nodes number in

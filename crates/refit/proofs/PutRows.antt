@@ -33,6 +33,7 @@ use Rattle.refit.specs.Putting.{IsNodeOf, IsPutting}
 
 -- ---- the number of a node, by its children
 module _ (t : Contents) (table : IsTable t) (i : ℕ) (l r : Packet) (d : IsNodeOf t.keys i l r) where
+  -- the first position of a left child is a number of the tree
   pub first_inside : l.first < length t.nodes
   first_inside = omega (
     arith,
@@ -120,6 +121,7 @@ module _ (x : Setting) (task : IsTask x) (old : List Node)
       (lt : i < length (splits_of (frame_of x))) (p q : Packet)
       (left_is : p ≡ child_packet x.keys x.boxes (slice_index (splits_of (frame_of x)) i) Left)
       (right_is : q ≡ child_packet x.keys x.boxes (slice_index (splits_of (frame_of x)) i) Right) where
+    -- the node at that place
     abbrev n : Named x.keys task.lawful (slice_index (splits_of (frame_of x)) i)
     n = node_at_split i lt
 
@@ -135,9 +137,11 @@ module _ (x : Setting) (task : IsTask x) (old : List Node)
               ∙ ap (λ z. split x.keys p.first z) (sym b.last)));
         }
 
+    -- and so in the tree as it is now
     pub node_of_packets : IsNodeOf now.keys n.number p q
     node_of_packets = subst (λ ks. IsNodeOf ks n.number p q) (sym h.keys) own
 
+    -- its number is one of the tree
     number_inside : n.number < length now.nodes
     number_inside = (row_range now h.table n.number p.first q.last node_of_packets.node).0
 
@@ -145,6 +149,7 @@ module _ (x : Setting) (task : IsTask x) (old : List Node)
     abbrev row : Node
     row = record (node_at now.nodes n.number) { fit = union_of p.fit q.fit }
 
+    -- that row is full
     full : IsFullRow x.keys x.boxes n.number row
     full =
         let y = node_at now.nodes n.number in
@@ -178,6 +183,7 @@ module _ (x : Setting) (task : IsTask x) (old : List Node)
         one_number x.keys task.lawful (subst (λ z. IsNode x.keys k z n.last) same.0
         (subst (λ z. IsNode x.keys k (node_at old k).first z) same.1 own_row.range)) n.node
 
+    -- one more node is put back
     pub put_more : (new : Contents) → new.keys ≡ now.keys → IsTable new →
         new.nodes ≡ put_fit now.nodes n.number (union_of p.fit q.fit) → IsPutting x old new (i + 1)
     put_more new keys table nodes = record {
@@ -218,9 +224,11 @@ module _ (x : Setting) (task : IsTask x) (old : List Node)
   -- when all are put back, the tree is fitted
   module _ (rest : FitsButFor (record { keys = x.keys; nodes = old }) x.boxes x.live) (now : Contents) (i : ℕ)
       (h : IsPutting x old now i) (all : length (splits_of (frame_of x)) ≤ i) where
+    -- the tree has as many nodes as before
     same_count : length now.nodes ≡ length old
     same_count = omega (arith, h.table.count, before.count, ap length h.keys)
 
+    -- each of its rows is full
     right : (k : ℕ) → k < length now.nodes → HasRow x.keys x.boxes now.nodes k
     unfolding frame_of
     right k lt =
@@ -238,6 +246,7 @@ module _ (x : Setting) (task : IsTask x) (old : List Node)
               (sym (live_row k small) ∙ off))
         ]
 
+    -- so it is fitted to the boxes
     pub all_fitted : IsFitted now x.boxes
     all_fitted =
         let room : length now.nodes ≡ length x.keys - 1 = omega (arith, h.table.count, ap length h.keys) in

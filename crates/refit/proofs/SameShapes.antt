@@ -30,6 +30,7 @@ module _ (old new : Contents) (before : IsTable old) (after : IsTable new) (keys
   same_count : length new.nodes ≡ length old.nodes
   same_count = omega (arith, before.count, after.count, ap length keys)
 
+  -- so tables over the same keys have one shape
   pub same_shape : KeepsShape old new
   same_shape = record {
     keys = keys;

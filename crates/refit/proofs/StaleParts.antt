@@ -62,12 +62,15 @@ module _ (t : Contents) (table : IsTable t) (boxes : List Box3) (number : ℕ) (
     (kids : AreChildren t number first second) (moved near far : List ℕ)
     (cut : AreParted moved (node_at t.nodes number).split near far)
     (stale : AreFittedBut moved t.keys boxes t.nodes (Inner number)) where
+  -- the node of that number
   abbrev x : Node
   x = node_at t.nodes number
 
+  -- it has its range
   spans : IsNode t.keys number x.first x.last
   spans = (table.each number kids.inside).range
 
+  -- and its split is that of the range
   cuts : x.split ≡ split t.keys x.first x.last
   cuts = (table.each number kids.inside).part
 
@@ -99,6 +102,7 @@ module _ (t : Contents) (table : IsTable t) (boxes : List Box3) (number : ℕ) (
             omega (arith, inside.1, same.1),
           )
 
+  -- the same below the other
   under_right : (k a b : ℕ) → IsUnder t.keys second k → IsNode t.keys k a b →
       IsUnder t.keys (Inner number) k × (x.split < a)
   under_right k a b under node = under_right_of second kids.of_second under

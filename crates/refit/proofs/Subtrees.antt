@@ -44,6 +44,7 @@ module _ (t : Contents) (table : IsTable t) (number : ℕ) (first second : Child
   first_child = child_from_range t table first _ _
       (omega (arith, high_at t table number kids.inside, last_at t table number kids.inside)) kids.of_first
 
+  -- it spans less
   pub first_smaller : span_of t first < span_of t (Inner number)
   first_smaller = omega (
     arith,
@@ -54,14 +55,17 @@ module _ (t : Contents) (table : IsTable t) (number : ℕ) (first second : Child
 
   -- and so does the second, in a later tree over the same keys
   module _ (u : Contents) (later : IsTable u) (keys : u.keys ≡ t.keys) where
+    -- it has its range there too
     range_there : HasRange u.keys second ((node_at t.nodes number).split + 1) (node_at t.nodes number).last
     range_there = subst (λ ks. HasRange ks second ((node_at t.nodes number).split + 1) (node_at t.nodes number).last)
         (sym keys) kids.of_second
 
+    -- it stands in that tree
     pub second_child : IsChild u second
     second_child = child_from_range u later second _ _
         (omega (arith, last_at t table number kids.inside, ap length keys)) range_there
 
+    -- and spans less
     pub second_smaller : span_of u second < span_of t (Inner number)
     second_smaller = omega (
       arith,

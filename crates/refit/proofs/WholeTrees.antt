@@ -22,12 +22,14 @@ module _ (t u : Contents) (boxes : List Box3) (before : IsTable t) (after : IsTa
       let below : k < last = omega (arith, lt, after.count, ap length keys) in
       (0, last, root_node t.keys before.lawful last refl many, below_root t.keys boxes (length t.keys) k below)
 
+  -- so the tree is fitted
   pub whole_fitted : IsFitted u boxes
   whole_fitted =
       let room : length u.nodes ≡ length t.keys - 1 = omega (arith, after.count, ap length keys) in
       let full = full_from_rows t.keys boxes u.nodes before.lawful count room (λ k lt. made k (all_under k lt)) in
       subst (λ ks. IsFitted (record { keys = ks; nodes = u.nodes }) boxes) (sym keys) full.fitted
 
+  -- and its nodes are those that the keys and the boxes determine
   pub whole_value : u.nodes ≡ table_of t.keys boxes
   whole_value = table_is u boxes after whole_fitted ∙ ap (λ ks. table_of ks boxes) keys
 

@@ -122,6 +122,7 @@ span_below from to lo hi e l T D k = (
       apart from lo l (shrinks lo from D k.positive x),
 )
 
+-- nor where it rests above the slab
 pub span_above : (from to lo hi : ℤ) → from ≡ to → hi <ℤ from → IsStretchOf (λ T D. IsBetweenAt from to lo hi T D) None
 span_above from to lo hi e l T D k = (
   λ c. absurd c,

@@ -8,6 +8,7 @@ use Rattle.segment_hit.proofs.GreatestDivisors.{greatest_is}
 use Rattle.segment_hit.specs.Entering.{IsIn}
 use Rattle.segment_hit.specs.HitOf.{Ratio, greatest_from, lowest_terms, shares_of, negated, faced, is_inside, fraction_of, hit_of}
 
+-- the point with these coordinates
 abbrev point : ℤ → ℤ → ℤ → Point
 point x y z = record { x = x; y = y; z = z }
 
@@ -19,41 +20,51 @@ hit_between p q = hit_of p q (record {
   c = point (pos 0) (pos 4) (pos 0);
 })
 
+-- a ratio
 abbrev over : ℤ → ℤ → Ratio
 over num den = record { num = num; den = den }
 
+-- a segment through the triangle meets it half way
 half : hit_between (point (pos 1) (pos 1) (negsuc 0)) (point (pos 1) (pos 1) (pos 1)) ≡ Some (over (pos 1) (pos 2))
 unfolding hit_of fraction_of faced shares_of negated is_inside lowest_terms greatest_from
 half = refl
 
+-- an edge counts
 on_an_edge : hit_between (point (pos 2) (pos 2) (negsuc 0)) (point (pos 2) (pos 2) (pos 3)) ≡ Some (over (pos 1) (pos 4))
 unfolding hit_of fraction_of faced shares_of negated is_inside lowest_terms greatest_from
 on_an_edge = refl
 
+-- so does the end of the segment
 at_the_end : hit_between (point (pos 1) (pos 1) (negsuc 0)) (point (pos 1) (pos 1) (pos 0)) ≡ Some (over (pos 1) (pos 1))
 unfolding hit_of fraction_of faced shares_of negated is_inside lowest_terms greatest_from
 at_the_end = refl
 
+-- and its start
 at_the_start : hit_between (point (pos 1) (pos 1) (pos 0)) (point (pos 1) (pos 1) (pos 5)) ≡ Some (over (pos 0) (pos 1))
 unfolding hit_of fraction_of faced shares_of negated is_inside lowest_terms greatest_from
 at_the_start = refl
 
+-- a segment beyond the plane misses
 beyond_the_plane : hit_between (point (pos 1) (pos 1) (pos 1)) (point (pos 1) (pos 1) (pos 3)) ≡ None
 unfolding hit_of fraction_of faced shares_of negated is_inside lowest_terms greatest_from
 beyond_the_plane = refl
 
+-- so does one in the plane
 in_the_plane : hit_between (point (negsuc 0) (pos 1) (pos 0)) (point (pos 5) (pos 1) (pos 0)) ≡ None
 unfolding hit_of fraction_of faced shares_of negated is_inside lowest_terms greatest_from
 in_the_plane = refl
 
+-- either side is met
 from_above : hit_between (point (pos 1) (pos 1) (pos 1)) (point (pos 1) (pos 1) (negsuc 2)) ≡ Some (over (pos 1) (pos 4))
 unfolding hit_of fraction_of faced shares_of negated is_inside lowest_terms greatest_from
 from_above = refl
 
+-- a segment that ends short of the plane misses
 short_of_the_plane : hit_between (point (pos 1) (pos 1) (negsuc 2)) (point (pos 1) (pos 1) (negsuc 0)) ≡ None
 unfolding hit_of fraction_of faced shares_of negated is_inside lowest_terms greatest_from
 short_of_the_plane = refl
 
+-- so does one that passes outside an edge
 past_an_edge : hit_between (point (pos 3) (pos 2) (negsuc 0)) (point (pos 3) (pos 2) (pos 1)) ≡ None
 unfolding hit_of fraction_of faced shares_of negated is_inside lowest_terms greatest_from
 past_an_edge = refl

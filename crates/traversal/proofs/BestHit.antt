@@ -94,6 +94,7 @@ module _ (tris : List Tri) (p q : Point) where
 
   -- after a look at all triangles the best hit is the nearest
   module _ (seen : ℕ → Type 0) (all : (n : ℕ) → 0 < n → n ≤ length tris → seen n) where
+    -- it is nearer than all that are met, or as near with a lower number
     pub nearest_of_all : (after : Option (ℕ × Frac)) → Nears tris p q seen None after →
         IfSome after (λ h. IsNearest tris p q h.0 h.1)
     nearest_of_all None x = tt

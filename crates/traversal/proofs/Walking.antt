@@ -49,6 +49,7 @@ module _ {t : Contents} {boxes : List Box3} {child : Child} {k : ℕ} (here : At
   pub low : node.first ≤ node.split
   low = low_at t here.table k here.inside
 
+  -- before the end
   pub high : node.split < node.last
   high = high_at t here.table k here.inside
 

@@ -29,7 +29,8 @@ collect-requires t c =
     let tree = c.args.t.now in
     let number = c.in-Inner.number in
     let inside : number < length tree.nodes = subst (IsChild tree) c.in-Inner.is c.requires.child in
-    let below = left_below tree c.requires.table c.args.child c.left.result number inside c.in-Inner.is c.left.ensures in
+    let below = left_below tree c.requires.table c.args.child c.left.result number inside c.in-Inner.is
+    c.left.ensures in
     let own = W.own_apart tree c.requires.table c.args.level c.requires.level number inside c.args.child c.in-Inner.is
     c.requires.apart in
     let alone = W.apart_from tree c.requires.table c.args.level c.requires.level c.left.result _ _ c.left.ensures
@@ -42,7 +43,8 @@ collect-requires-2 t c =
     let tree = c.args.t.now in
     let number = c.in-Inner.number in
     let inside : number < length tree.nodes = subst (IsChild tree) c.in-Inner.is c.requires.child in
-    let below = right_below tree c.requires.table c.args.child c.right.result number inside c.in-Inner.is c.right.ensures in
+    let below = right_below tree c.requires.table c.args.child c.right.result number inside c.in-Inner.is
+    c.right.ensures in
     let own = W.own_apart tree c.requires.table c.args.level c.requires.level number inside c.args.child c.in-Inner.is
     c.requires.apart in
     let alone = W.apart_from tree c.requires.table c.args.level c.requires.level c.right.result _ _ c.right.ensures
