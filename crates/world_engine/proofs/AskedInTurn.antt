@@ -27,11 +27,13 @@ length-replies_to world (ask ∷ asks) = ap suc (length-replies_to (state_after 
 pub world_after_more : (world : WorldState) (asks : List Ask) (at : ℕ) (ask : Ask) → at < length asks
     → world_after world (take (at + 1) asks) ≡ state_after (world_after world (take at asks)) (get_or asks at ask)
 world_after_more world asks at ask some =
-    ap (world_after world) (take_more asks at ask some) ∙ world_after-append world (take at asks) (get_or asks at ask ∷ [])
+    ap (world_after world) (take_more asks at ask some)
+    ∙ world_after-append world (take at asks) (get_or asks at ask ∷ [])
 
 -- the replies to one ask more
 pub replies_to_more : (world : WorldState) (asks : List Ask) (at : ℕ) (ask : Ask) → at < length asks
     → replies_to world (take (at + 1) asks)
     ≡ replies_to world (take at asks) ++ reply_to (world_after world (take at asks)) (get_or asks at ask) ∷ []
 replies_to_more world asks at ask some =
-    ap (replies_to world) (take_more asks at ask some) ∙ replies_to-append world (take at asks) (get_or asks at ask ∷ [])
+    ap (replies_to world) (take_more asks at ask some)
+    ∙ replies_to-append world (take at asks) (get_or asks at ask ∷ [])

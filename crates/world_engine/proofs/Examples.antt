@@ -44,14 +44,17 @@ key code tri = record { code = code; tri = tri }
 abbrev eight : List Key
 eight = key 1 1 ∷ key 2 2 ∷ key 4 3 ∷ key 5 4 ∷ key 19 5 ∷ key 24 6 ∷ key 25 7 ∷ key 30 8 ∷ []
 
+-- neighbours of eight are measured by the bits that their codes share
 first_measure : measure eight 0 1 ≡ 52
 unfolding measure prefix code_at key_at
 first_measure = refl
 
+-- the next two share one bit fewer
 second_measure : measure eight 1 2 ≡ 51
 unfolding measure prefix code_at key_at
 second_measure = refl
 
+-- the two in the middle share fewer still
 middle_measure : measure eight 3 4 ≡ 49
 unfolding measure prefix code_at key_at
 middle_measure = refl
@@ -66,12 +69,14 @@ equal_codes = refl
 abbrev row : ℕ → ℕ → ℕ → ℕ → Row
 row number first last parted = record { number = number; first = first; last = last; split = parted }
 
+-- its nodes from the top, each with its range and split
 rows_of_eight
     : rows 0 (shape_of eight)
     ≡ row 0 0 7 3 ∷ row 3 0 3 1 ∷ row 1 0 1 0 ∷ row 2 2 3 2 ∷ row 4 4 7 4 ∷ row 5 5 7 6 ∷ row 6 5 6 5 ∷ []
 unfolding rows shape_of shape_in grown split last_clear differing code_at key_at
 rows_of_eight = refl
 
+-- and its height
 height_of_eight : height_of (shape_of eight) ≡ 4
 unfolding height_of shape_of shape_in grown split last_clear differing code_at key_at
 height_of_eight = refl
@@ -101,14 +106,16 @@ twice = once ++ codes "f 1 2 3\n"
 
 boxes_touch
     : file_output 1 (Some once) (Some (codes "box 4 4 0 9 9 0\nwork\n"))
-    ≡ Some (says (all (line_of (codes "overlaps") (count 1 ∷ decimal 1 ∷ []) ∷ line_of (codes "work") (decimal 1 ∷ []) ∷ [])) Done)
+    ≡ Some (says (all
+    (line_of (codes "overlaps") (count 1 ∷ decimal 1 ∷ []) ∷ line_of (codes "work") (decimal 1 ∷ []) ∷ [])) Done)
 unfolding steps_of overlaps_of overlaps_from boxes_meet crosses tri_box corner_box point_box union_of
     order_of sorted_keys put_key is_before keys_from code_of interleaved middle raised work_of
 boxes_touch = refl
 
 struck
     : file_output 1 (Some twice) (Some (codes "seg 1 1 -1 1 1 1\nseg 1 1 1 1 1 3"))
-    ≡ Some (says (all (line_of (codes "hit") (decimal 1 ∷ (decimal 1 ++ (codes "/" ++ decimal 2)) ∷ []) ∷ codes "miss\n" ∷ [])) Done)
+    ≡ Some (says (all
+    (line_of (codes "hit") (decimal 1 ∷ (decimal 1 ++ (codes "/" ++ decimal 2)) ∷ []) ∷ codes "miss\n" ∷ [])) Done)
 unfolding steps_of nearest_of nearest_from numbered_hit nearer_of ratio_le ratio_word
     hit_of fraction_of faced shares_of negated is_inside lowest_terms greatest_from
 struck = refl
@@ -119,8 +126,8 @@ refused_lines
     ≡ Some (says (all
     (refusal_text 1 UnknownWord ∷ refusal_text 2 WrongCount ∷ refusal_text 3 NotANumber ∷ [] ∷ refusal_text 5 OutOfRange
     ∷ refusal_text 6 NoSuchNode ∷ [])) LinesRefused)
-unfolding steps_of table_of nodes_from order_of sorted_keys put_key is_before keys_from code_of interleaved middle raised
-    tri_box corner_box point_box union_of
+unfolding steps_of table_of nodes_from order_of sorted_keys put_key is_before keys_from code_of interleaved middle
+    raised tri_box corner_box point_box union_of
 refused_lines = refl
 
 refused_mesh
@@ -131,9 +138,11 @@ refused_mesh = refl
 -- a square floor and a ramp, as exporters write them
 abbrev level : List ℕ
 level = codes "# level\nmtllib level.mtl\no Floor\nv 0.000000 0.000000 0.000000\nv 4.000000 0.000000 0.000000\n"
-    ++ codes "v 4.000000 4.000000 0.000000\nv 0.000000 4.000000 0.000000\nvt 0.000000 0.000000\nvn 0.0000 0.0000 1.0000\n"
+    ++ codes "v 4.000000 4.000000 0.000000\nv 0.000000 4.000000 0.000000\n"
+    ++ codes "vt 0.000000 0.000000\nvn 0.0000 0.0000 1.0000\n"
     ++ codes "usemtl Stone\ns off\nf 1/1/1 2/1/1 3/1/1 4/1/1\no Ramp\nv 4.000000 0.000000 0.000000\n"
-    ++ codes "v 6.500000 0.000000 1.250000\nv 6.500000 4.000000 1.250000\nv 4.000000 4.000000 0.000000\nf 5//1 6//1 7//1 8//1\n"
+    ++ codes "v 6.500000 0.000000 1.250000\nv 6.500000 4.000000 1.250000\n"
+    ++ codes "v 4.000000 4.000000 0.000000\nf 5//1 6//1 7//1 8//1\n"
 
 -- the corners of a box in the plane z = 0, or with its top above it
 abbrev from_floor : ℕ → ℕ → ℕ → ℕ → List (List ℕ)
@@ -150,6 +159,7 @@ level_answers
     ∷ [])) Done)
 unfolding steps_of overlaps_of overlaps_from boxes_meet crosses tri_box corner_box point_box union_of
     order_of sorted_keys put_key is_before keys_from code_of interleaved middle raised
-    work_of count_reached is_reached is_at_or_above table_of nodes_from node_of_row least_box_of joined boxes_in box_of_triangle no_box no_node node_at
+    work_of count_reached is_reached is_at_or_above table_of nodes_from node_of_row least_box_of joined boxes_in
+    box_of_triangle no_box no_node node_at
     row_at rows shape_of shape_in grown split last_clear differing code_at key_at
 level_answers = refl

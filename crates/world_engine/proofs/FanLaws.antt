@@ -42,12 +42,14 @@ put_thrice latest face x = set (set (set latest face.a x) face.b x) face.c x
 put_same : (xs : List ℕ) (i v x : ℕ) → i < length xs → i ≡ v → get_or (set xs i x) v 0 ≡ x
 put_same xs i v x lt e = subst (λ j. get_or (set xs i x) j 0 ≡ x) e (get_or-set_same xs i x 0 lt)
 
+-- and so it stays, whatever vertex one is put for next
 put_stays : (xs : List ℕ) (i v x : ℕ) → i < length xs → get_or xs v 0 ≡ x → get_or (set xs i x) v 0 ≡ x
 put_stays xs i v x lt e = elim (cases_eq i v) [
   | inl same ↦ put_same xs i v x lt same
   | inr other ↦ get_or-set_other xs i v x 0 (λ f. other (sym f)) ∙ e
 ]
 
+-- it is the latest at each vertex of the face
 pub thrice_here : (latest : List ℕ) (face : Face) (x v : ℕ) → IsFaceOf (length latest) face → HasVertex face v →
     latest_at (put_thrice latest face x) v ≡ x
 thrice_here latest face x v named has =
@@ -61,6 +63,7 @@ thrice_here latest face x v named has =
       | inr (inr e) ↦ put_same two face.c v x c e
     ]
 
+-- and at any other vertex the latest is as before
 pub thrice_elsewhere : (latest : List ℕ) (face : Face) (x v : ℕ) → ¬ HasVertex face v →
     latest_at (put_thrice latest face x) v ≡ latest_at latest v
 thrice_elsewhere latest face x v hasnt =
@@ -68,7 +71,7 @@ thrice_elsewhere latest face x v hasnt =
     ∙ (get_or-set_other (set latest face.a x) face.b v x 0 (λ e. hasnt (inr (inl (sym e))))
     ∙ get_or-set_other latest face.a v x 0 (λ e. hasnt (inl (sym e))))
 
--- the latest of no triangle, of one more that has the vertex, and of one more that has it not
+-- before the first triangle no triangle is the latest
 pub latest_none : (faces : List Face) (v : ℕ) → IsLatest faces 0 v 0
 latest_none faces v = record {
   all = λ t lt has. omega arith;
@@ -76,6 +79,7 @@ latest_none faces v = record {
   uses = λ some. absurd (omega arith);
 }
 
+-- one more that has the vertex is
 latest_here : (faces : List Face) (n v : ℕ) → HasVertex (face_at faces n) v → IsLatest faces (n + 1) v (n + 1)
 latest_here faces n v has =
     let back : n ≡ n + 1 - 1 = omega arith in
@@ -85,6 +89,7 @@ latest_here faces n v has =
       uses = λ some. subst (λ t. HasVertex (face_at faces t) v) back has;
     }
 
+-- one more that has it not leaves the latest
 latest_elsewhere : (faces : List Face) (n v x : ℕ) → ¬ HasVertex (face_at faces n) v → IsLatest faces n v x →
     IsLatest faces (n + 1) v x
 latest_elsewhere faces n v x hasnt latest = record {

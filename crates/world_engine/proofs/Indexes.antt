@@ -116,42 +116,12 @@ module _ (index : Index) (now : List Point) (faces : List Face) (old : IsIndex i
       }) old.fans (subst (λ ks. IfSome ways (λ w. IsWayUp w ks)) (sym keys) up)
       (subst (λ ks. IfSome positions (λ ps. ArePositions ps.items ks)) (sym keys) stand)
 
-  -- with the way up found, or lost, where the tree is as it was
-  pub ways_found : (tree : Contents) (ways : Option BuiltWays) → tree ≡ index.tree →
-      IfSome ways (λ w. IsWayUp w index.tree.keys) → IsIndex (record index { tree = tree; ways = ways }) now faces
-  ways_found tree ways same up =
-      subst (λ t. IsIndex (record index { tree = t; ways = ways }) now faces) (sym same) (record {
-        boxes = old.boxes;
-        triangles = old.triangles;
-        keys = old.keys;
-        vertices = old.vertices;
-        right = old.right;
-        fitted = λ still. record {
-          each = (old.fitted still).each;
-          nodes = (old.fitted still).nodes;
-          fits = (old.fitted still).fits;
-          list = (old.fitted still).list;
-          leaves = (old.fitted still).leaves;
-        };
-        were = record {
-          before = old.were.before;
-          count = old.were.count;
-          tree = old.were.tree;
-          list = old.were.list;
-          leaves = old.were.leaves;
-          still = old.were.still;
-        };
-        ways = up;
-        fans = old.fans;
-        positions = old.positions;
-        work = old.work;
-      })
-
-  -- with the positions of triangles found, or lost
-  pub positions_found : (positions : Option (Vec ℕ Global)) →
+  -- with the way up and the positions of triangles found, or lost
+  found : (ways : Option BuiltWays) (positions : Option (Vec ℕ Global)) →
+      IfSome ways (λ w. IsWayUp w index.tree.keys) →
       IfSome positions (λ ps. ArePositions ps.items index.tree.keys) →
-      IsIndex (record index { positions = positions }) now faces
-  positions_found positions stand = record {
+      IsIndex (record index { ways = ways; positions = positions }) now faces
+  found ways positions up stand = record {
     boxes = old.boxes;
     triangles = old.triangles;
     keys = old.keys;
@@ -172,11 +142,24 @@ module _ (index : Index) (now : List Point) (faces : List Face) (old : IsIndex i
       leaves = old.were.leaves;
       still = old.were.still;
     };
-    ways = old.ways;
+    ways = up;
     fans = old.fans;
     positions = stand;
     work = old.work;
   }
+
+  -- the way up alone, where the tree is as it was
+  pub ways_found : (tree : Contents) (ways : Option BuiltWays) → tree ≡ index.tree →
+      IfSome ways (λ w. IsWayUp w index.tree.keys) → IsIndex (record index { tree = tree; ways = ways }) now faces
+  ways_found tree ways same up =
+      subst (λ t. IsIndex (record index { tree = t; ways = ways }) now faces) (sym same)
+      (found ways index.positions up old.positions)
+
+  -- the positions alone
+  pub positions_found : (positions : Option (Vec ℕ Global)) →
+      IfSome positions (λ ps. ArePositions ps.items index.tree.keys) →
+      IsIndex (record index { positions = positions }) now faces
+  positions_found positions stand = found index.ways positions old.ways stand
 
   -- with another box whose work is not counted yet, where no vertex is marked
   pub box_asked : (around : Box3) → index.marks.moved ≡ [] →

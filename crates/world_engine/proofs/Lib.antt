@@ -1,7 +1,6 @@
 pub mod DeskAnswers
 pub mod Ends
 pub mod Stops
-pub mod RefusedMeshes
 pub mod WorldBoxes
 pub mod FanLaws
 pub mod Marking
@@ -18,3 +17,4 @@ pub mod NodeCounts
 pub mod SumSteps
 pub mod AskedInTurn
 pub mod Telling
+pub mod StageEnds

@@ -1,6 +1,6 @@
 -- The positions of the triangles that use moved vertices, while they are gathered, and when they are sorted.
 use Rattle.std.proofs.Common.{◌≡◌, ℕ, ◌+◌, ◌-◌, ◌<◌, ◌≤◌, ◌⊎◌, inl, inr, sym, ap, ◌∙◌, arith, subst, List, [], ◌∷◌, ◌++◌, length, get_or, suc, zero, set, eqb}
-use Rattle.std.specs.List.{Contains, AllPairs, dedup, All}
+use Rattle.std.specs.List.{Contains, dedup, All}
 use Rattle.std.specs.List.Sorted.{IsSorted, IsPermutation}
 use Rattle.std.specs.Ordering.{nat_cmp}
 use Rattle.std.proofs.Math.ListN.{length-set}
@@ -88,19 +88,20 @@ module _ (faces : List Face) (positions moved : List ℕ) where
   pub fans_sorted : (n : ℕ) (list sorted once : List ℕ) → n ≡ length moved → AreOfFans faces positions moved n list →
       IsPermutation list sorted → IsSorted nat_cmp sorted → once ≡ dedup eqb sorted →
       AreSortedFans faces positions moved once
-  fans_sorted n list sorted once count fans same order is = subst (AreSortedFans faces positions moved) (sym is) (record {
-    rising = AllPairs-from_increasing (dedup eqb sorted) (IsStrictlyIncreasing-dedup sorted order);
-    fans = record {
-      all = λ t k lt below has.
-          let p = position_at positions t in
-          Contains-dedup_nat sorted p (Contains-permutation list sorted p same
-          (fans.all t k lt (omega (arith, below, count)) has));
-      alone = λ p listed.
-          let (k, lt, fan) = fans.alone p (Contains-permutation sorted list p (IsPermutation-sym list sorted same)
-          (Contains-from_dedup eqb sorted p listed)) in
-          (k, omega (arith, lt, count), fan);
-    };
-  })
+  fans_sorted n list sorted once count fans same order is =
+      subst (AreSortedFans faces positions moved) (sym is) (record {
+        rising = AllPairs-from_increasing (dedup eqb sorted) (IsStrictlyIncreasing-dedup sorted order);
+        fans = record {
+          all = λ t k lt below has.
+              let p = position_at positions t in
+              Contains-dedup_nat sorted p (Contains-permutation list sorted p same
+              (fans.all t k lt (omega (arith, below, count)) has));
+          alone = λ p listed.
+              let (k, lt, fan) = fans.alone p (Contains-permutation sorted list p (IsPermutation-sym list sorted same)
+              (Contains-from_dedup eqb sorted p listed)) in
+              (k, omega (arith, lt, count), fan);
+        };
+      })
 
 module _ (faces : List Face) (keys : List Key) (lawful : IsLawful keys) (count : length keys ≡ length faces)
     (positions : List ℕ) (stand : ArePositions positions keys) where

@@ -11,6 +11,7 @@ use Rattle.query_script.specs.declared.faults.LineFault.TheVariants.{NoSuchNode}
 use Rattle.query_script.specs.declared.replies.Reply.TheVariants.{Refused}
 use Rattle.world_engine.specs.Worlds.{WorldState, built_order, boxes_now, table, node_reply}
 
+-- so many nodes are written as are counted
 length-nodes_from : (keys : List Key) (boxes : List Box3) (k count : ℕ) → length (nodes_from keys boxes k count) ≡ count
 unfolding nodes_from
 length-nodes_from keys boxes k zero = refl

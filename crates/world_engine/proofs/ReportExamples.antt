@@ -60,15 +60,18 @@ unfolding move_asks move_ask query_box over_place field_mesh field_points row_po
     box_of_triangle no_box no_node node_at row_at rows shape_of shape_in grown split last_clear differing code_at key_at
 boxes_met_moved = refl
 
--- the counts before the first pass, and behind the moves and the build
+-- the counts before the first pass
 counted_first : replies_to opened (Stat ∷ []) ≡ StatIs 8 7 3 46 ∷ []
-unfolding field_mesh field_points row_points vertex_at field_faces row_faces square_faces tri_box corner_box point_box union_of
+unfolding field_mesh field_points row_points vertex_at field_faces row_faces square_faces tri_box corner_box
+    point_box union_of
     order_of sorted_keys put_key is_before keys_from code_of interleaved middle raised height_of shape_of shape_in grown
     split last_clear differing code_at key_at
     cell_count_of cells_to cells_of cells_from cell_at is_cell_at last_with keys_with prefix_at prefix_of
 counted_first = refl
 
-counted_last : replies_to (world_after (world_after opened (move_asks 2)) (Rebuild ∷ [])) (Stat ∷ []) ≡ StatIs 8 7 3 22 ∷ []
+-- and behind the moves and the build
+counted_last
+    : replies_to (world_after (world_after opened (move_asks 2)) (Rebuild ∷ [])) (Stat ∷ []) ≡ StatIs 8 7 3 22 ∷ []
 unfolding move_asks move_ask field_mesh field_points row_points vertex_at field_faces row_faces square_faces tri_box
     corner_box point_box union_of order_of sorted_keys put_key is_before keys_from code_of interleaved middle raised
     height_of shape_of shape_in grown split last_clear differing code_at key_at

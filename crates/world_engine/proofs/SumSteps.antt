@@ -9,11 +9,13 @@ use Rattle.world_engine.specs.Additions.{one_if, added, IsSmall, IsWithin}
 
 -- a count goes up by one where the next element passes
 counted_more : (passes : Reply → Bool) (replies : List Reply) (at : ℕ) (none : Reply) → at < length replies
-    → count_by passes (take (at + 1) replies) ≡ count_by passes (take at replies) + one_if (passes (get_or replies at none))
+    → count_by passes (take (at + 1) replies)
+    ≡ count_by passes (take at replies) + one_if (passes (get_or replies at none))
 counted_more passes replies at none some = go (passes (get_or replies at none)) refl
   where
     go : (b : Bool) → passes (get_or replies at none) ≡ b
-        → count_by passes (take (at + 1) replies) ≡ count_by passes (take at replies) + one_if (passes (get_or replies at none))
+        → count_by passes (take (at + 1) replies)
+        ≡ count_by passes (take at replies) + one_if (passes (get_or replies at none))
     go true e =
         let more = count_by_more_yes passes replies at none some e in
         let one : one_if (passes (get_or replies at none)) ≡ 1 = ap one_if e in

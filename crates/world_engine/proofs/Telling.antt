@@ -42,9 +42,9 @@ pub tells_none : (world now : WorldState) (text : List ℕ) → now ≡ world �
 tells_none world now text same none = record { world_is = same; text_is = none }
 
 -- one stage more
-pub tells_more : (world : WorldState) (stages : List Stage) (stage : Stage) (now later : WorldState) (text more : List ℕ)
-    → Tells world stages now text → later ≡ world_after now stage.asks → more ≡ text ++ stage_text now stage
-    → Tells world (stages ++ stage ∷ []) later more
+pub tells_more : (world : WorldState) (stages : List Stage) (stage : Stage) (now later : WorldState)
+    (text more : List ℕ) → Tells world stages now text → later ≡ world_after now stage.asks
+    → more ≡ text ++ stage_text now stage → Tells world (stages ++ stage ∷ []) later more
 tells_more world stages stage now later text more told world_is text_is = record {
   world_is =
       world_is ∙ ap (λ w. world_after w stage.asks) told.world_is ∙ sym (worlds_after-append world stages stage);

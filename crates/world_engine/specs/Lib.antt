@@ -10,6 +10,7 @@ pub mod WaysUp
 pub mod Kept
 pub mod Grouping
 pub mod Runs
+pub mod StageEnds
 pub mod Desks
 pub mod Workload
 pub mod Sums

@@ -9,8 +9,9 @@ ghost use Rattle.command_line.specs.Plans.{plan_of};
 ghost use Rattle.command_line.specs.declared.plan.Input.TheVariants.{File};
 ghost use Rattle.world_engine.specs.Words.{opening, opening_of, grid_of};
 ghost use Rattle.world_engine.specs.Reports.{report_of};
-ghost use Rattle.world_engine.specs.Outputs.{output_of, opening_output, says};
+ghost use Rattle.world_engine.specs.Outputs.{output_of, says};
 ghost use Rattle.world_engine.specs.Runs.{Fulfils, IsComplete, IsAbsentMesh, MeshIs, IsRefusedFile, IsRefusedMesh, world_of_opening, replies_to_ended, IsAnswered, IsUntouched};
+ghost use Rattle.world_engine.specs.StageEnds.{EndsFile};
 
 use crate::limits::SCRIPT_MOST;
 use crate::report::grid_report;
@@ -153,28 +154,9 @@ fn answer_file<R: Threads + Sync, H: Shelf, S: Source, K: Sink, G: Gate>(
     requires few_workers { plan.workers ≤ MOST_WORKERS }
     requires some_unit { 1 ≤ plan.unit }
     requires small_unit { plan.unit ≤ UNIT_MAX }
-    ensures output { IfSome (opening_output (Some (opening name.now plan.unit)) (H.holds shelf.old) (S.left script.old)) (λ output. Fulfils output result (K.written out.old) (K.written out.new)) }
-    ensures usage { result ≢ Status.Usage }
-    ensures mesh { result ≡ Status.MeshRefused → MeshIs (H.holds shelf.old) (Some (opening name.now plan.unit)) IsRefusedFile }
-    ensures read { result ≡ Status.ReadFault → Rose (H.faults shelf.old) (H.faults shelf.new) ⊎ Rose (S.faults script.old) (S.faults script.new)
-        ⊎ IsAbsentMesh (H.holds shelf.old) (Some (opening name.now plan.unit)) }
-    ensures write { result ≡ Status.WriteFault → Rose (K.faults out.old) (K.faults out.new) }
-    ensures absent { IsAbsentMesh (H.holds shelf.old) (Some (opening name.now plan.unit)) → (result ≡ Status.ReadFault) ⊎ (result ≡ Status.Memory) }
-    ensures silent { result ≡ Status.ReadFault → Rose (S.faults script.old) (S.faults script.new) ⊎ (K.written out.new ≡ K.written out.old) }
-    ensures partial { result ≡ Status.ReadFault → IfSome (world_of_opening (H.holds shelf.old) (Some (opening name.now plan.unit))) (λ world.
-        Taken (S.left script.old) (S.left script.new) (λ front. Appends (K.written out.old) (K.written out.new) (replies_to_ended world front))) }
-    ensures prompt { result ≡ Status.WriteFault → IfSome (world_of_opening (H.holds shelf.old) (Some (opening name.now plan.unit))) (λ world.
-        IsPrompt (replies_to_ended world) (S.left script.old) (S.left script.new) (K.written out.old) (K.written out.new)) }
-    ensures taken { IsAnswered result → Loses (SCRIPT_MOST + 1) (S.left script.old) (S.left script.new) }
-    ensures most { LosesAtMost (SCRIPT_MOST + 1) (S.left script.old) (S.left script.new) }
-    ensures unread { (result ≡ Status.MeshRefused) ⊎ IsRefusedMesh (H.holds shelf.old) (Some (opening name.now plan.unit))
-        → IsUntouched (S.left script.old) (S.left script.new) (S.faults script.old) (S.faults script.new) }
-    ensures shelf { H.faults shelf.old ≤ H.faults shelf.new }
-    ensures source { S.faults script.old ≤ S.faults script.new }
-    ensures sink { K.faults out.old ≤ K.faults out.new }
-    ensures shelf_kept { result ≢ Status.ReadFault → H.faults shelf.new ≡ H.faults shelf.old }
-    ensures source_kept { result ≢ Status.ReadFault → S.faults script.new ≡ S.faults script.old }
-    ensures sink_kept { result ≢ Status.WriteFault → K.faults out.new ≡ K.faults out.old }
+    ensures { EndsFile (Some (opening name.now plan.unit)) (H.holds shelf.old) (H.faults shelf.old) (H.faults shelf.new) result
+        (S.left script.old) (S.left script.new) (S.faults script.old) (S.faults script.new)
+        (K.written out.old) (K.written out.new) (K.faults out.old) (K.faults out.new) }
 {
     match fetch_all(alloc, shelf, name, MOST_BYTES) {
         Ok(Loaded::Whole(text)) => answer_mesh(rt, gate, alloc, text, plan, script, out),

@@ -1,14 +1,14 @@
 //! The stages of a run behind its words: the mesh is opened, or word is written that it is refused, and the script is
 //! answered. Each says of its part what a run says of the whole.
 
-ghost use Rattle.std.specs.Prelude.{◌≡◌, ◌⊎◌, ◌≤◌, ◌+◌, ◌≢◌, Ok, IfSome, IfOk, IfErr, length};
-ghost use Rattle.std.specs.Io.KnownBytes.{Appends};
+ghost use Rattle.std.specs.Prelude.{◌≡◌, ◌⊎◌, ◌≤◌, ◌≢◌, Ok, Some, IfOk, IfErr, length};
+ghost use Rattle.std.specs.Option.{option_map};
 ghost use Rattle.outside.specs.Causes.{Rose};
-ghost use Rattle.streams.specs.Taken.{Taken, Loses, LosesAtMost, IsPrompt};
 ghost use Rattle.obj_text.specs.Texts.{mesh_of, IsRefusalOf};
 ghost use Rattle.world_engine.specs.Refusals.{refusal_text};
 ghost use Rattle.world_engine.specs.Outputs.{script_output, mesh_output, says, status_of};
-ghost use Rattle.world_engine.specs.Runs.{Fulfils, IsFaulty, world_in, replies_to_ended, asked, IsAnswered, IsUntouched};
+ghost use Rattle.world_engine.specs.Runs.{Fulfils, IsFaulty, world_in, asked};
+ghost use Rattle.world_engine.specs.StageEnds.{Ends};
 
 use crate::desk::Desk;
 use crate::limits::SCRIPT_MOST;
@@ -57,20 +57,9 @@ fn answer_script<R: Threads + Sync, S: Source, K: Sink, G: Gate>(
     script: &mut S,
     out: &mut K,
 ) -> Status
-    ensures output { IfSome (S.left script.old) (λ bytes. Fulfils (script_output unit world bytes) result (K.written out.old) (K.written out.new)) }
-    ensures usage { result ≢ Status.Usage }
-    ensures mesh { result ≢ Status.MeshRefused }
-    ensures read { result ≡ Status.ReadFault → Rose (S.faults script.old) (S.faults script.new) }
-    ensures write { result ≡ Status.WriteFault → Rose (K.faults out.old) (K.faults out.new) }
-    ensures partial { result ≡ Status.ReadFault → Taken (S.left script.old) (S.left script.new) (λ front.
-        Appends (K.written out.old) (K.written out.new) (replies_to_ended (asked unit world) front)) }
-    ensures prompt { result ≡ Status.WriteFault → IsPrompt (replies_to_ended (asked unit world)) (S.left script.old) (S.left script.new) (K.written out.old) (K.written out.new) }
-    ensures taken { IsAnswered result → Loses (SCRIPT_MOST + 1) (S.left script.old) (S.left script.new) }
-    ensures most { LosesAtMost (SCRIPT_MOST + 1) (S.left script.old) (S.left script.new) }
-    ensures source { S.faults script.old ≤ S.faults script.new }
-    ensures sink { K.faults out.old ≤ K.faults out.new }
-    ensures source_kept { result ≢ Status.ReadFault → S.faults script.new ≡ S.faults script.old }
-    ensures sink_kept { result ≢ Status.WriteFault → K.faults out.new ≡ K.faults out.old }
+    ensures { Ends (option_map (script_output unit world) (S.left script.old)) (Some (asked unit world)) ⊥ ⊥ ⊥ result
+        (S.left script.old) (S.left script.new) (S.faults script.old) (S.faults script.new)
+        (K.written out.old) (K.written out.new) (K.faults out.old) (K.faults out.new) }
 {
     let desk = Desk {
         world,
@@ -122,23 +111,11 @@ pub fn answer_mesh<R: Threads + Sync, S: Source, K: Sink, G: Gate>(
     requires few_workers { plan.workers ≤ MOST_WORKERS }
     requires some_unit { 1 ≤ plan.unit }
     requires small_unit { plan.unit ≤ UNIT_MAX }
-    ensures output { IfSome (mesh_output plan.unit (mesh_of plan.unit text.items) (S.left script.old)) (λ output. Fulfils output result (K.written out.old) (K.written out.new)) }
-    ensures usage { result ≢ Status.Usage }
-    ensures mesh { result ≡ Status.MeshRefused → IsFaulty (mesh_of plan.unit text.items) }
-    ensures read { result ≡ Status.ReadFault → Rose (S.faults script.old) (S.faults script.new) }
-    ensures write { result ≡ Status.WriteFault → Rose (K.faults out.old) (K.faults out.new) }
-    ensures partial { result ≡ Status.ReadFault → IfSome (world_in plan.unit (mesh_of plan.unit text.items)) (λ world. Taken (S.left script.old) (S.left script.new) (λ front.
-        Appends (K.written out.old) (K.written out.new) (replies_to_ended world front))) }
-    ensures prompt { result ≡ Status.WriteFault → IfSome (world_in plan.unit (mesh_of plan.unit text.items)) (λ world.
-        IsPrompt (replies_to_ended world) (S.left script.old) (S.left script.new) (K.written out.old) (K.written out.new)) }
-    ensures taken { IsAnswered result → Loses (SCRIPT_MOST + 1) (S.left script.old) (S.left script.new) }
-    ensures most { LosesAtMost (SCRIPT_MOST + 1) (S.left script.old) (S.left script.new) }
-    ensures refused { result ≡ Status.MeshRefused → IsUntouched (S.left script.old) (S.left script.new) (S.faults script.old) (S.faults script.new) }
-    ensures faulty { IsFaulty (mesh_of plan.unit text.items) → IsUntouched (S.left script.old) (S.left script.new) (S.faults script.old) (S.faults script.new) }
-    ensures source { S.faults script.old ≤ S.faults script.new }
-    ensures sink { K.faults out.old ≤ K.faults out.new }
-    ensures source_kept { result ≢ Status.ReadFault → S.faults script.new ≡ S.faults script.old }
-    ensures sink_kept { result ≢ Status.WriteFault → K.faults out.new ≡ K.faults out.old }
+    ensures { Ends (mesh_output plan.unit (mesh_of plan.unit text.items) (S.left script.old))
+        (world_in plan.unit (mesh_of plan.unit text.items)) (IsFaulty (mesh_of plan.unit text.items))
+        (IsFaulty (mesh_of plan.unit text.items)) ⊥ result
+        (S.left script.old) (S.left script.new) (S.faults script.old) (S.faults script.new)
+        (K.written out.old) (K.written out.new) (K.faults out.old) (K.faults out.new) }
 {
     let mesh = match open_mesh(rt, alloc, text, plan.unit) {
         Ok(mesh) => mesh,

@@ -9,6 +9,13 @@ loop-ask-preserved g c =
     let replies = replies_to_more c.args.world.now asks at ask c.loop-ask-test.true in
     let world = world_after_more c.args.world.now asks at ask c.loop-ask-test.true in
     record {
-      replies = cc (replies, c.ask-item.is, c.in-Ok.ensures.items, c.in_ok-reply.ensures.reply, c.loop-ask.invariant.replies, c.loop-ask.invariant.world);
+      replies = cc (
+        replies,
+        c.ask-item.is,
+        c.in-Ok.ensures.items,
+        c.in_ok-reply.ensures.reply,
+        c.loop-ask.invariant.replies,
+        c.loop-ask.invariant.world,
+      );
       world = cc (world, c.ask-item.is, c.in_ok-reply.ensures.state, c.loop-ask.invariant.world);
     }

@@ -15,7 +15,8 @@ returns-clause-askable c =
     let asks = c.args.asks.now.items in
     let down = Seg c.over_place-p.result c.over_place-q.result in
     let around = Overlap c.query_box.result in
-    let segment = All-push IsAskable asks down c.requires.askable (c.over_place-p.ensures.world, c.over_place-q.ensures.world) in
+    let segment = All-push IsAskable asks down c.requires.askable
+    (c.over_place-p.ensures.world, c.over_place-q.ensures.world) in
     let boxed = All-push IsAskable (asks ++ down ∷ []) around segment tt in
     let worked = All-push IsAskable ((asks ++ down ∷ []) ++ around ∷ []) Work boxed tt in
     let all : c.push-3.new.self.items ≡ ((asks ++ down ∷ []) ++ around ∷ []) ++ Work ∷ [] =

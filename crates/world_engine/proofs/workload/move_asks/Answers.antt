@@ -13,7 +13,8 @@ loop-number-preserved c =
     let number = c.loop-number.number in
     let asks = c.loop-number.asks.items in
     let more = map-range_with_len_more (move_ask c.args.points.now c.args.side) 0 number number (omega arith) in
-    let askable = All-push IsAskable asks c.move_ask.result c.loop-number.invariant.askable c.move_ask.ensures.askable in
+    let askable = All-push IsAskable asks c.move_ask.result c.loop-number.invariant.askable
+    c.move_ask.ensures.askable in
     record {
       asks = cc (more, c.in_ok-push.ensures.items, c.move_ask.ensures.value, c.loop-number.invariant.asks);
       askable = All-same IsAskable _ _ c.in_ok-push.ensures.items askable;

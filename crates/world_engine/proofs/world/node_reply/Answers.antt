@@ -12,4 +12,5 @@ returns-then-number-nodes c =
     let number = c.args.number in
     let inside = c.if-number-nodes.true in
     ap (NodeIs number) (node_is nodes number c.index-nodes-number.result inside c.index-nodes-number.is)
-    ∙ sym (ap (λ b. if b then NodeIs number (node_at nodes number) else Refused NoSuchNode) (is_less number (length nodes) inside))
+    ∙ sym (ap (λ b. if b then NodeIs number (node_at nodes number) else Refused NoSuchNode)
+    (is_less number (length nodes) inside))
