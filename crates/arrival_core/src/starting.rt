@@ -12,14 +12,13 @@ ghost use Rattle.arrival_core.specs.Tasks.{FitsButFor, IsTask};
 ghost use Rattle.arrival_core.specs.Forks.{fork_at};
 ghost use Rattle.arrival_core.specs.Terrains.{IsTerrain, IsStartFork, frame_at, setting_on, start_branch, table_packet};
 
-use crate::climbing::node_of;
 use crate::forks::{Branch, Climber, Fork};
 use crate::resuming::leaf_packet;
 use crate::terrains::Terrain;
 use crate::{BATCH, CoreState, Packet, Phase, Place, Tally};
 use fixed_box::Box3;
 use outside::Memory;
-use radix_tree::{Child, Tree, left, right};
+use radix_tree::{Child, Tree, left, node_of, right};
 use std::alloc::{AllocError, Global};
 
 /// Whether some live position lies in a range. The live ones rise, so the first that is not below the range tells.

@@ -13,6 +13,7 @@ use Rattle.morton_key.specs.Bits.{prefix, differing}
 pub half : (x k : ℕ) → x / 2 ^ k / 2 ≡ x / 2 ^ suc k
 half x k = rw pow-suc (div-div-eq-div-mul x (2 ^ k) 2)
 
+-- a number without its last k bits is one without k + 1, and bit k behind it
 pub shift_step : (x k : ℕ) → x / 2 ^ k ≡ x / 2 ^ suc k * 2 + bit_at x k
 shift_step x k = omega (arith, half x k)
 
@@ -24,6 +25,7 @@ same_above (suc k) x y h =
     cond_both (bit_at x k == bit_at y k) (differing k x y) (suc k) (λ d. x / 2 ^ d ≡ y / 2 ^ d)
     (λ e. same_above k x y (omega (arith, eqb-true _ _ e, h, shift_step x k, shift_step y k))) (λ e. h)
 
+-- no difference lies above the width that is looked at
 pub differing_le : (w x y : ℕ) → differing w x y ≤ w
 unfolding differing
 differing_le zero x y = omega arith
@@ -44,6 +46,7 @@ pub same_from : (x y d m : ℕ) → d ≤ m → x / 2 ^ d ≡ y / 2 ^ d → x / 
 same_from x y d m le h = let e : d + (m - d) ≡ m = omega arith in
     rw (← e) (rw (← shr-shr x d (m - d), ← shr-shr y d (m - d)) (ap (λ z. z / 2 ^ (m - d)) h))
 
+-- numbers that are equal without their last m bits differ in m bits at most
 pub differing_least : (w x y m : ℕ) → x / 2 ^ m ≡ y / 2 ^ m → differing w x y ≤ m
 differing_least w x y m h = elim (cases_lt m (differing w x y)) [
   | inr le ↦ le
@@ -57,19 +60,24 @@ pub xor_zero : (x y : ℕ) → bit_xor x y ≡ 0 → x ≡ y
 xor_zero x y h = sym (xor_zero_r x)
     ∙ (ap (λ z. bit_xor x z) (sym (xor_self y)) ∙ (sym (xor_assoc x y y) ∙ (ap (λ z. bit_xor z y) h ∙ xor_zero_l y)))
 
+-- a quotient does not fall where the number does not
 pub div_mono : (x y n : ℕ) → 0 < n → x ≤ y → x / n ≤ y / n
 div_mono x y n p h = le-div (x / n) y n p (omega (arith, div-add-mod' x n))
 
+-- nothing is left of a number of k bits without its last k
 pub div_small : (x k : ℕ) → x < 2 ^ k → x / 2 ^ k ≡ 0
 div_small x k h = grind (arith, div-add-mod' x (2 ^ k), row_fits)
 
+-- a number of which nothing is left without its last k bits has k bits
 pub small_div : (x k : ℕ) → x / 2 ^ k ≡ 0 → x < 2 ^ k
 small_div x k h = omega (arith, div-add-mod' x (2 ^ k), ap (λ z. z * 2 ^ k) h, pow_pos k)
 
+-- numbers that are equal without their last m bits have an exclusive or of m bits
 pub xor_below : (x y m : ℕ) → x / 2 ^ m ≡ y / 2 ^ m → bit_xor x y < 2 ^ m
 xor_below x y m h =
     small_div (bit_xor x y) m (xor_shr x y m ∙ (ap (λ z. bit_xor z (y / 2 ^ m)) h ∙ xor_self (y / 2 ^ m)))
 
+-- numbers that differ in bit k have an exclusive or of 2 ^ k at least
 pub below_xor : (x y k : ℕ) → bit_at x k ≢ bit_at y k → 2 ^ k ≤ bit_xor x y
 below_xor x y k h = elim (cases_lt (bit_xor x y) (2 ^ k)) [
   | inr le ↦ le

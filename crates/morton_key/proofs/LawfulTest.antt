@@ -25,28 +25,34 @@ abbrev pub fits : ℕ → List Key → Bool
 fits n [] = true
 fits n (k ∷ ks) = (nat_lt k.code (2 ^ WIDTH) && (nat_lt 0 k.tri && nat_le k.tri n)) && fits n ks
 
+-- the keys are few enough, rise, fit their count, and have each number once
 abbrev pub is_lawful : List Key → Bool
 is_lawful keys = nat_le (length keys) (2 ^ POSITION_WIDTH) &&
     (rises keys && (fits (length keys) keys && agree_below (λ t. count_of (suc t) keys == 1) (λ t. true)
     (length keys)))
 
+-- a key that passes the test is before each of the others
 all_from_test : (k : Key) (ks : List Key) → before_all k ks ≡ true → All (IsBefore k) ks
 all_from_test k [] h = All-nil (IsBefore k)
 all_from_test k (x ∷ xs) h =
     let p = and_parts (is_before k x) (before_all k xs) h in
     All-cons (IsBefore k) x xs (before_from_test k x p.0) (all_from_test k xs p.1)
 
+-- keys that pass the test rise
 rising_from_test : (ks : List Key) → rises ks ≡ true → IsRising ks
 rising_from_test [] h = record { before = λ i j. λ lt inside. absurd (omega arith) }
+-- keys that pass the test rise
 rising_from_test (k ∷ ks) h =
     let p = and_parts (before_all k ks) (rises ks) h in
     rising_cons k ks (all_from_test k ks p.0) (rising_from_test ks p.1)
 
+-- a key with a narrow code and a number from 1 to n
 record Fits (n : ℕ) (k : Key) : Type 0 where
   narrow : k.code < 2 ^ WIDTH
   from_one : 0 < k.tri
   to_count : k.tri ≤ n
 
+-- keys that pass the test fit a list of n
 fits_from_test : (n : ℕ) (ks : List Key) → fits n ks ≡ true → All (Fits n) ks
 fits_from_test n [] h = All-nil (Fits n)
 fits_from_test n (k ∷ ks) h =

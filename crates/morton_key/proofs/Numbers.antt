@@ -30,6 +30,7 @@ count_no t k keys ne =
 
 -- ---- in the keys of numbered boxes
 
+-- keys that are numbered from s on have no smaller number
 count_before : (t s : ℕ) (boxes : List Box3) → t < s → count_of t (keys_from s boxes) ≡ 0
 unfolding keys_from
 count_before t s [] lt = refl
@@ -49,12 +50,14 @@ count_inside t s (b ∷ bs) le lt = elim (cases_eq s t) [
 
 -- ---- in any keys
 
+-- one more key in front lessens no count
 count_grows : (t : ℕ) (k : Key) (keys : List Key) → count_of t keys ≤ count_of t (k ∷ keys)
 count_grows t k keys = elim (cases_eq k.tri t) [
   | inl e ↦ omega (arith, count_yes t k keys e)
   | inr ne ↦ omega (arith, count_no t k keys ne)
 ]
 
+-- a number that stands at a position counts once at least
 count_one : (t : ℕ) (keys : List Key) (i : ℕ) → i < length keys → (key_at keys i).tri ≡ t → 1 ≤ count_of t keys
 unfolding key_at
 count_one t [] i lt e = absurd (omega arith)

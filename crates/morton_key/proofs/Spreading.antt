@@ -31,6 +31,7 @@ is_mask group mask h = record {
 bit_at_cut : (n i : ℕ) → i < 64 → bit_at (n % 2 ^ 64) i ≡ bit_at n i
 bit_at_cut n i lt = sym (bit_at_cat_low (n / 2 ^ 64) 64 (n % 2 ^ 64) i lt) ∙ ap (λ z. bit_at z i) (shr_split n 64)
 
+-- a word that is moved up has zeros below it
 plus_none : (w s : ℕ) → w * 2 ^ s ≡ w * 2 ^ s + 0
 plus_none w s = omega arith
 
@@ -64,6 +65,7 @@ pub record InUpper (group i : ℕ) : Type 0 where
   pub source : (i - 2 * group) / (3 * (2 * group)) * (2 * group) + (i - 2 * group) % (3 * (2 * group))
       ≡ i / (3 * group) * group + i % (3 * group)
 
+-- each place of a group stands in the lower half of a wide group, or comes from the upper half of one
 abbrev pub HasHalves : ℕ → Type 0
 HasHalves group = (i : ℕ) → i % (3 * group) < group → InLower group i ⊎ InUpper group i
 
@@ -128,48 +130,58 @@ whole x small = record {
   between = λ i. λ lt past. bit_at_above x 32 i small (omega arith);
 }
 
+-- groups of 16 are halves of groups of 32
 halves_16 : HasHalves 16
 halves_16 i h = elim (cases_lt (i % 96) 32) [
   | inl lt ↦ inl (record { here = lt; source = omega arith; apart = λ up. omega arith })
   | inr le ↦ inr (record { here = le; up = omega arith; from = omega arith; source = omega arith })
 ]
 
+-- groups of 8 are halves of groups of 16
 halves_8 : HasHalves 8
 halves_8 i h = elim (cases_lt (i % 48) 16) [
   | inl lt ↦ inl (record { here = lt; source = omega arith; apart = λ up. omega arith })
   | inr le ↦ inr (record { here = le; up = omega arith; from = omega arith; source = omega arith })
 ]
 
+-- groups of 4 are halves of groups of 8
 halves_4 : HasHalves 4
 halves_4 i h = elim (cases_lt (i % 24) 8) [
   | inl lt ↦ inl (record { here = lt; source = omega arith; apart = λ up. omega arith })
   | inr le ↦ inr (record { here = le; up = omega arith; from = omega arith; source = omega arith })
 ]
 
+-- groups of 2 are halves of groups of 4
 halves_2 : HasHalves 2
 halves_2 i h = elim (cases_lt (i % 12) 4) [
   | inl lt ↦ inl (record { here = lt; source = omega arith; apart = λ up. omega arith })
   | inr le ↦ inr (record { here = le; up = omega arith; from = omega arith; source = omega arith })
 ]
 
+-- single bits are halves of pairs
 halves_1 : HasHalves 1
 halves_1 i h = elim (cases_lt (i % 6) 2) [
   | inl lt ↦ inl (record { here = lt; source = omega arith; apart = λ up. omega arith })
   | inr le ↦ inr (record { here = le; up = omega arith; from = omega arith; source = omega arith })
 ]
 
+-- the first step takes one group of 32 bits to groups of 16
 pub to_sixteen : (x w : ℕ) → w ≡ x → x < 2 ^ 32 → IsSpread 16 x (parted 16 0xffff_0000_0000_ffff w)
 to_sixteen x w e small = halved 16 0xffff_0000_0000_ffff x w (is_mask 16 0xffff_0000_0000_ffff refl) halves_16
     (rw e (whole x small))
 
+-- the second to groups of 8
 pub to_eight : (x w : ℕ) → IsSpread 16 x w → IsSpread 8 x (parted 8 0x00ff_0000_ff00_00ff w)
 to_eight x w h = halved 8 0x00ff_0000_ff00_00ff x w (is_mask 8 0x00ff_0000_ff00_00ff refl) halves_8 h
 
+-- the third to groups of 4
 pub to_four : (x w : ℕ) → IsSpread 8 x w → IsSpread 4 x (parted 4 0xf00f_00f0_0f00_f00f w)
 to_four x w h = halved 4 0xf00f_00f0_0f00_f00f x w (is_mask 4 0xf00f_00f0_0f00_f00f refl) halves_4 h
 
+-- the fourth to groups of 2
 pub to_two : (x w : ℕ) → IsSpread 4 x w → IsSpread 2 x (parted 2 0x30c3_0c30_c30c_30c3 w)
 to_two x w h = halved 2 0x30c3_0c30_c30c_30c3 x w (is_mask 2 0x30c3_0c30_c30c_30c3 refl) halves_2 h
 
+-- the last to single bits, each followed by two zeros
 pub to_one : (x w : ℕ) → IsSpread 2 x w → IsSpread 1 x (parted 1 0x9249_2492_4924_9249 w)
 to_one x w h = halved 1 0x9249_2492_4924_9249 x w (is_mask 1 0x9249_2492_4924_9249 refl) halves_1 h

@@ -10,8 +10,8 @@ ghost use Rattle.radix_tree.specs.Filling.{IsChild};
 use crate::{Child, Node, Tree};
 use morton_key::{POSITION_WIDTH, WIDTH};
 
-/// The node of that number.
-fn node_of(t: &Tree, number: u32) -> Node
+/// The node of that number, which the table has. Its table is that of its keys.
+pub fn node_of(t: &Tree, number: u32) -> Node
     requires { number < length t.now.nodes }
     ensures value { result ≡ node_at t.now.nodes number }
     ensures table { IsTable t.now }

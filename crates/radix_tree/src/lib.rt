@@ -11,7 +11,7 @@ mod splitting;
 mod trees;
 
 pub use building::{box_at, plain};
-pub use descent::{height, left, right};
+pub use descent::{height, left, node_of, right};
 pub use nodes::{Child, Node};
 pub use splitting::split_of;
 pub use trees::Tree;

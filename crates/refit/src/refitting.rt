@@ -15,7 +15,7 @@ ghost use Rattle.refit.specs.Stale.{AreFittedBut, AreParted};
 ghost use Rattle.refit.specs.Subtrees.{IsUnder};
 
 use fixed_box::{Box3, union};
-use radix_tree::{Child, Node, Tree, left, right};
+use radix_tree::{Child, Tree, left, node_of, right};
 
 /// The box of the triangle at a position.
 pub(crate) fn box_at(tree: &Tree, boxes: &[Box3], position: u32) -> Box3
@@ -25,14 +25,6 @@ pub(crate) fn box_at(tree: &Tree, boxes: &[Box3], position: u32) -> Box3
     ensures least { IsLeastBox (boxes_in boxes.now tree.now.keys position position) result }
 {
     radix_tree::box_at(tree.keys(), boxes, position as usize)
-}
-
-/// The node of that number.
-fn node_of(tree: &Tree, number: u32) -> Node
-    requires { IsChild tree.now (Child.Inner number) }
-    ensures { result ≡ node_at tree.now.nodes number }
-{
-    tree.nodes()[number as usize]
 }
 
 /// The positions up to one, and those behind it.

@@ -52,10 +52,12 @@ pub lines_unfinished : (text : List ℕ) → IsOneLine text → 0 < length text 
 lines_unfinished [] p some = absurd (omega arith)
 lines_unfinished (b ∷ bs) p some = cut_last b bs p
 
+-- a byte put before lines makes one line more at most
 length-onto_line : (b : ℕ) (lines : List (List ℕ)) → length (onto_line true b lines) ≤ length lines + 1
 length-onto_line b [] = omega arith
 length-onto_line b (line ∷ lines) = omega arith
 
+-- so it does where it may be a line feed
 length-line : (b : ℕ) (k : Bool) (lines : List (List ℕ))
     → length (cond k ([] ∷ lines) (onto_line true b lines)) ≤ length lines + 1
 length-line b true lines = omega arith

@@ -2,12 +2,14 @@
 use Rattle.std.proofs.Common.{◌≡◌, ◌≤◌, ◌+◌, ◌-◌, ◌*◌, ◌&&◌, ℕ, Bool, true, false, List, [], ◌∷◌, ◌++◌, IsTrue, length, take, cond, refl, sym, ap, ◌∙◌, subst, length-append, arith}
 use Rattle.std.specs.List.{list_all}
 use Rattle.std.proofs.Math.Seq.{take-append_seam}
+use Rattle.std.proofs.lemmas.Bool.{and_parts}
 use Rattle.std.proofs.lemmas.Bool.Decides.{nat_tests}
 use Rattle.text_words.specs.Lines.{is_blank}
 use Rattle.text_words.specs.Cuts.{IsBroken, front_of}
 use Rattle.text_words.specs.Numbers.{is_digit, value_after, digits_of, past_digits}
 use Rattle.text_words.specs.ThreeNumbers.{IsNumber, IsSmallNumber}
 
+-- the digits of a text and what follows them are the text, whether or not the byte before it is a digit
 parts_by : (b : ℕ) (bs : List ℕ) (k : Bool) → digits_of bs ++ past_digits bs ≡ bs
     → cond k (b ∷ digits_of bs) [] ++ cond k (past_digits bs) (b ∷ bs) ≡ b ∷ bs
 parts_by b bs true e = ap (λ k. b ∷ k) e
@@ -18,6 +20,7 @@ pub digit_parts : (text : List ℕ) → digits_of text ++ past_digits text ≡ t
 digit_parts [] = refl
 digit_parts (b ∷ bs) = parts_by b bs (is_digit b) (digit_parts bs)
 
+-- the digits at the front are digits, whether or not the byte before the text is one
 digits_by : (b : ℕ) (bs : List ℕ) (k : Bool) → is_digit b ≡ k → IsTrue (list_all is_digit (digits_of bs))
     → IsTrue (list_all is_digit (cond k (b ∷ digits_of bs) []))
 digits_by b bs true e p = ap (λ k. k && list_all is_digit (digits_of bs)) e ∙ p
@@ -76,13 +79,11 @@ pub no_digits : (text rest : List ℕ) → rest ≡ past_digits text → length 
     → IsSmallNumber (digits_of text) → ⊥
 no_digits text rest e none p = omega (arith, length-digits text, ap length e, none, p.some)
 
-both : (x y : Bool) → (x && y) ≡ true → (x ≡ true) × (y ≡ true)
-both true y e = (refl, e)
-both false y e = absurd (cc)
-
+-- a blank is no digit
 blank_by : (b : ℕ) (k : Bool) → is_blank b ≡ true → is_digit b ≡ k → k ≡ false
 blank_by b k e f = grind (arith, nat_tests, e, f)
 
+-- the digits at the front of a text are its first word, whether or not it begins with a blank
 front_by : (b : ℕ) (bs : List ℕ) (k : Bool) → is_blank b ≡ k
     → (IsTrue (list_all is_digit (front_of bs)) → (digits_of bs ≡ front_of bs) × IsBroken (past_digits bs))
     → IsTrue (list_all is_digit (cond k [] (b ∷ front_of bs)))
@@ -93,7 +94,7 @@ front_by b bs true e later p =
       subst IsBroken (sym (ap (λ k. cond k (past_digits bs) (b ∷ bs)) no)) e,
     )
 front_by b bs false e later p =
-    let q = both (is_digit b) (list_all is_digit (front_of bs)) p in
+    let q = and_parts (is_digit b) (list_all is_digit (front_of bs)) p in
     let r = later q.1 in (
       ap (λ k. cond k (b ∷ digits_of bs) []) q.0 ∙ ap (λ k. b ∷ k) r.0,
       subst IsBroken (sym (ap (λ k. cond k (past_digits bs) (b ∷ bs)) q.0)) r.1,

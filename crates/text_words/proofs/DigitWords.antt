@@ -1,6 +1,7 @@
 -- A word of digits alone, read digit by digit.
 use Rattle.std.proofs.Common.{◌≡◌, ℕ, Bool, true, false, not, ◌&&◌, List, [], ◌∷◌, IsTrue, refl, ap, ◌∙◌, arith}
 use Rattle.std.specs.List.{list_all}
+use Rattle.std.proofs.lemmas.Bool.{and_parts}
 use Rattle.std.proofs.lemmas.Bool.Decides.{nat_tests}
 use Rattle.text_words.specs.Lines.{is_blank}
 use Rattle.text_words.specs.Joins.{JoinedLine}
@@ -9,6 +10,7 @@ use Rattle.text_words.specs.Numbers.{is_digit}
 use Rattle.text_words.specs.ThreeNumbers.{AreThreeNumbers}
 use Rattle.text_words.proofs.Joining.{word_left}
 
+-- a byte that is a digit does not pass for a blank
 digit_by : (b : ℕ) (k : Bool) → is_digit b ≡ true → is_blank b ≡ k → k ≡ false
 digit_by b k e f = grind (arith, nat_tests, e, f)
 
@@ -16,10 +18,7 @@ digit_by b k e f = grind (arith, nat_tests, e, f)
 pub digit_not_blank : (b : ℕ) → is_digit b ≡ true → is_blank b ≡ false
 digit_not_blank b e = digit_by b (is_blank b) e refl
 
-both : (x y : Bool) → (x && y) ≡ true → (x ≡ true) × (y ≡ true)
-both true y e = (refl, e)
-both false y e = absurd (cc)
-
+-- a byte that is no blank goes before bytes that are none
 not_blank : (b : Bool) (rest : Bool) → b ≡ false → rest ≡ true → (not b && rest) ≡ true
 not_blank true rest e f = absurd (cc)
 not_blank false rest e f = f
@@ -29,7 +28,7 @@ pub digits_unbroken : (word : List ℕ) → IsTrue (list_all is_digit word)
     → IsTrue (list_all (λ b. not (is_blank b)) word)
 digits_unbroken [] p = p
 digits_unbroken (b ∷ bs) p =
-    let q = both (is_digit b) (list_all is_digit bs) p in
+    let q = and_parts (is_digit b) (list_all is_digit bs) p in
     not_blank (is_blank b) (list_all (λ c. not (is_blank c)) bs) (digit_not_blank b q.0) (digits_unbroken bs q.1)
 
 -- three words of the line at hand are the first of those that are left

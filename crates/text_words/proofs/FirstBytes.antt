@@ -1,12 +1,9 @@
 -- What stands before the first byte that passes a test.
 use Rattle.std.proofs.Common.{◌≡◌, ◌<◌, ◌≤◌, ℕ, zero, suc, Bool, true, false, not, ◌&&◌, ◌||◌, ◌==◌, ◌+◌, ◌-◌, ◌++◌, List, [], ◌∷◌, length, take, drop, slice_index, refl, sym, ap, ◌∙◌, take_all, length-drop, arith}
 use Rattle.std.specs.List.{list_all}
+use Rattle.std.proofs.lemmas.Bool.{and_from}
 use Rattle.text_words.specs.Lines.{IsOneLine}
 use Rattle.text_words.specs.Parts.{IsPlain}
-
-both : (x y : Bool) → x ≡ true → y ≡ true → (x && y) ≡ true
-both true y e f = f
-both false y e f = absurd (cc)
 
 -- a front of which each byte passes a test
 all_before : (f : ℕ → Bool) (text : List ℕ) (at : ℕ) → ((i : ℕ) → i < at → f (slice_index text i) ≡ true) → at ≤ length text
@@ -14,7 +11,7 @@ all_before : (f : ℕ → Bool) (text : List ℕ) (at : ℕ) → ((i : ℕ) → 
 all_before f text zero h le = refl
 all_before f [] (suc at) h le = absurd (omega (arith, le))
 all_before f (b ∷ bs) (suc at) h le =
-    both (f b) (list_all f (take at bs)) (h 0 (omega arith)) (all_before f bs at (λ i lt. h (suc i) (omega (arith, lt))) (omega (arith, le)))
+    and_from (f b) (list_all f (take at bs)) (h 0 (omega arith)) (all_before f bs at (λ i lt. h (suc i) (omega (arith, lt))) (omega (arith, le)))
 
 -- a byte that is none of three
 parts : (a b c : Bool) → ((a || b || c) ≡ true → ⊥) → (not a ≡ true) × ((not b && not c) ≡ true)

@@ -1,20 +1,18 @@
 -- The word that a line begins with, and what its digits write.
 use Rattle.std.proofs.Common.{◌≡◌, ℕ, Bool, true, false, ◌&&◌, List, [], ◌∷◌, IsTrue, cond, filter, Option, Some, None, IfNone, refl, sym, ap, ◌∙◌, subst}
 use Rattle.std.specs.List.{list_all, slice_split, onto_first}
+use Rattle.std.proofs.lemmas.Bool.{and_parts}
 use Rattle.text_words.specs.Lines.{is_blank, is_word, words_of}
 use Rattle.text_words.specs.Cuts.{front_of, IsPastBlanks}
 use Rattle.text_words.specs.Numbers.{is_digit}
 use Rattle.text_words.specs.ThreeNumbers.{IsSmallNumber, BeginSmall}
 use Rattle.text_words.proofs.DigitWords.{digit_not_blank}
 
-both : (x y : Bool) → (x && y) ≡ true → (x ≡ true) × (y ≡ true)
-both true y e = (refl, e)
-both false y e = absurd (cc)
-
 -- the front of a line that begins with a byte that is no blank
 front_more : (b : ℕ) (bs : List ℕ) → is_blank b ≡ false → front_of (b ∷ bs) ≡ b ∷ front_of bs
 front_more b bs e = ap (λ k. cond k [] (b ∷ front_of bs)) e
 
+-- the first part of a line cut at blanks is its front, whether or not it begins with a blank
 split_by : (b : ℕ) (k : Bool) (front : List ℕ) (xs rest : List (List ℕ)) → xs ≡ front ∷ rest
     → (behind : List (List ℕ)) × (cond k ([] ∷ xs) (onto_first b xs) ≡ cond k [] (b ∷ front) ∷ behind)
 split_by b true front xs rest e = (xs, refl)
@@ -42,7 +40,7 @@ small_front (b ∷ bs) past p =
 pub front_all : (word : List ℕ) → IsTrue (list_all is_digit word) → front_of word ≡ word
 front_all [] p = refl
 front_all (b ∷ bs) p =
-    let here = both (is_digit b) (list_all is_digit bs) p in
+    let here = and_parts (is_digit b) (list_all is_digit bs) p in
     front_more b bs (digit_not_blank b here.0) ∙ ap (λ k. b ∷ k) (front_all bs here.1)
 
 -- what a `None` refutes, said of another fact

@@ -4,6 +4,7 @@ use Rattle.std.specs.List.{list_all}
 use Rattle.text_words.specs.Joins.{said, joins, is_line_end}
 use Rattle.text_words.specs.Parts.{IsPlain}
 
+-- a byte that begins no comment and joins no line stands as it is before what is said
 plain_by : (s j : Bool) (end : Bool) (b : ℕ) (bs : List ℕ) (more : Bool) → (not s && not j) && more ≡ true
     → (cond (s || (j && end)) [] (b ∷ said bs) ≡ b ∷ said bs) × ((not s && ((j && end) || joins bs)) ≡ joins bs) × (more ≡ true)
 plain_by true j end b bs more e = absurd (cc)

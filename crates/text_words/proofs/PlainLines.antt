@@ -1,6 +1,7 @@
 -- A plain line, put together from its words.
 use Rattle.std.proofs.Common.{◌≡◌, ◌+◌, ℕ, Bool, true, false, List, [], ◌∷◌, ◌++◌, ◌==◌, ◌&&◌, not, IsTrue, length, refl, sym, ap, ◌∙◌, append_assoc, append-nil, arith}
 use Rattle.std.specs.List.{list_all}
+use Rattle.std.proofs.lemmas.Bool.{and_parts, and_from}
 use Rattle.std.proofs.lemmas.Bool.Decides.{nat_tests}
 use Rattle.text_words.specs.Lines.{is_blank, words_of, lines_of}
 use Rattle.text_words.specs.Joins.{said, joined_lines}
@@ -14,29 +15,21 @@ use Rattle.text_words.proofs.Spaces.{words_word, words_blank}
 use Rattle.text_words.proofs.Plain.{plain_line}
 use Rattle.text_words.proofs.Joining.{line_begins}
 
-both : (x y : Bool) → (x && y) ≡ true → (x ≡ true) × (y ≡ true)
-both true y e = (refl, e)
-both false y e = absurd (cc)
-
-one_more : (x y : Bool) → x ≡ true → y ≡ true → (x && y) ≡ true
-one_more true y e f = f
-one_more false y e f = absurd (cc)
-
 -- bytes that all pass a test pass each test that follows from it
 pub all_pass : (f g : ℕ → Bool) → ((b : ℕ) → f b ≡ true → g b ≡ true) → (bytes : List ℕ)
     → IsTrue (list_all f bytes) → IsTrue (list_all g bytes)
 all_pass f g law [] p = p
 all_pass f g law (b ∷ bs) p =
-    let q = both (f b) (list_all f bs) p in
-    one_more (g b) (list_all g bs) (law b q.0) (all_pass f g law bs q.1)
+    let q = and_parts (f b) (list_all f bs) p in
+    and_from (g b) (list_all g bs) (law b q.0) (all_pass f g law bs q.1)
 
 -- so do the bytes of two parts
 all_of_both : (f : ℕ → Bool) (xs ys : List ℕ) → IsTrue (list_all f xs) → IsTrue (list_all f ys)
     → IsTrue (list_all f (xs ++ ys))
 all_of_both f [] ys p q = q
 all_of_both f (b ∷ bs) ys p q =
-    let r = both (f b) (list_all f bs) p in
-    one_more (f b) (list_all f (bs ++ ys)) r.0 (all_of_both f bs ys r.1 q)
+    let r = and_parts (f b) (list_all f bs) p in
+    and_from (f b) (list_all f (bs ++ ys)) r.0 (all_of_both f bs ys r.1 q)
 
 -- a word, and what follows it
 cut : (word rest : List ℕ) → IsPlainWord word → IsBroken rest → IsCut (word ++ rest) word rest
@@ -64,12 +57,15 @@ word_before word text words rest p q = record {
       ∙ ap (λ w. word ∷ w) (words_blank 32 q.line refl ∙ q.words_are);
 }
 
+-- a digit is no blank
 digit_unbroken : (b : ℕ) → is_digit b ≡ true → not (is_blank b) ≡ true
 digit_unbroken b e = grind (arith, nat_tests, e)
 
+-- a digit is no line feed
 digit_one : (b : ℕ) → is_digit b ≡ true → not (b == 10) ≡ true
 digit_one b e = grind (arith, nat_tests, e)
 
+-- a digit begins no comment and joins no line
 digit_plain : (b : ℕ) → is_digit b ≡ true → (not (b == 35) && not (b == 92)) ≡ true
 digit_plain b e = grind (arith, nat_tests, e)
 

@@ -14,6 +14,7 @@ abbrev parts_after : List ℕ → List (List ℕ)
 parts_after [] = []
 parts_after (b ∷ bs) = slice_split is_blank bs
 
+-- the first byte of a text without blanks is none, and the rest has none
 no_blank : (b : ℕ) (bs : List ℕ) → IsTrue (list_all (λ c. not (is_blank c)) (b ∷ bs))
     → (is_blank b ≡ false) × IsTrue (list_all (λ c. not (is_blank c)) bs)
 no_blank b bs p =
@@ -21,17 +22,21 @@ no_blank b bs p =
     let same : Bool → Type 0 = λ k. IsTrue (not k && list_all (λ c. not (is_blank c)) bs) → (k ≡ false) × rest in
     elim (is_blank b) as same [ true ↦ λ q. cc | false ↦ λ q. (refl, q) ] p
 
+-- a word is the first part of a line that goes on with a blank or ends
 split_word : (word rest : List ℕ) → IsTrue (list_all (λ c. not (is_blank c)) word) → IsBroken rest
     → slice_split is_blank (word ++ rest) ≡ word ∷ parts_after rest
 split_word [] [] p q = refl
 split_word [] (b ∷ bs) p q = ap (λ k. cond k ([] ∷ slice_split is_blank bs) (onto_first b (slice_split is_blank bs))) q
+-- a word is the first part of a line that goes on with a blank or ends
 split_word (b ∷ bs) rest p q =
     let r = no_blank b bs p in
     ap (λ k. cond k ([] ∷ slice_split is_blank (bs ++ rest)) (onto_first b (slice_split is_blank (bs ++ rest)))) r.0
     ∙ ap (onto_first b) (split_word bs rest r.1 q)
 
+-- the words among the later parts are those of what follows the word
 words_after : (rest : List ℕ) → IsBroken rest → filter is_word (parts_after rest) ≡ words_of rest
 words_after [] q = refl
+-- the words among the later parts are those of what follows the word
 words_after (b ∷ bs) q = sym (words_blank b bs q)
 
 -- a word, and then the words of what follows

@@ -17,7 +17,7 @@ use crate::{Leaf, RUN, Record, WalkList};
 use fixed_box::Box3;
 use morton_key::Key;
 use outside::Memory;
-use radix_tree::{Child, Node, Tree, left, right};
+use radix_tree::{Child, Tree, left, node_of, right};
 use std::alloc::{AllocError, Global};
 use traversal::root;
 
@@ -46,14 +46,6 @@ fn leaves_of(alloc: Global, keys: &[Key], boxes: &[Box3]) -> Result<Vec<Leaf>, A
         leaves.push(leaf_of(keys, boxes, position))?;
     }
     Ok(leaves)
-}
-
-/// The node of that number.
-fn node_of(t: &Tree, number: u32) -> Node
-    requires { number < length t.now.nodes }
-    ensures { result ≡ node_at t.now.nodes number }
-{
-    t.nodes()[number as usize]
 }
 
 /// Adds a run: the leaves from a position up to another.

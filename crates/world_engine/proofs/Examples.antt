@@ -37,6 +37,7 @@ code_of_small : code_of (tri_box small) ≡ 7 * 2 ^ 51 + 48
 unfolding code_of interleaved middle raised tri_box corner_box point_box union_of
 code_of_small = refl
 
+-- a key with that code and number
 abbrev key : ℕ → ℕ → Key
 key code tri = record { code = code; tri = tri }
 
@@ -66,6 +67,7 @@ equal_codes = refl
 
 -- ---- the tree
 
+-- a row of the table of nodes
 abbrev row : ℕ → ℕ → ℕ → ℕ → Row
 row number first last parted = record { number = number; first = first; last = last; split = parted }
 
@@ -97,10 +99,11 @@ all (line ∷ lines) = line ++ all lines
 abbrev count : ℕ → List ℕ
 count n = decimal n ++ codes ":"
 
--- that triangle, once or twice
+-- a mesh of that triangle
 abbrev once : List ℕ
 once = codes "v 0 0 0\nv 4 0 0\nv 0 4 0\nf 1 2 3\n"
 
+-- and of that triangle twice
 abbrev twice : List ℕ
 twice = once ++ codes "f 1 2 3\n"
 

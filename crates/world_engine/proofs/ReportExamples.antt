@@ -38,6 +38,7 @@ places = refl
 abbrev boxes : List Ask
 boxes = flat_map (λ query. Overlap (query_box 2 query) ∷ Work ∷ []) (range_with_len 0 8)
 
+-- the world of the field of two squares a side
 abbrev opened : WorldState
 opened = world_of (field_mesh 2)
 

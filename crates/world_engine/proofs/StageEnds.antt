@@ -42,10 +42,12 @@ prompt_none answers (Some bytes) None written_now text front = tt
 prompt_none answers (Some bytes) (Some old) None text front = absurd front.1.taken
 prompt_none answers (Some bytes) (Some old) (Some now) text front = λ ahead back is short. omega arith
 
+-- where none was taken ahead, the same holds of a world that may not be there
 prompt_in : (world : Option Asked) (left written written_now : Option (List ℕ)) (text : List ℕ)
     → AppendsFront written written_now text
     → IfSome world (λ world. IsPrompt (replies_to_ended world) left left written written_now)
 prompt_in None left written written_now text front = tt
+-- where none was taken ahead, the same holds of a world that may not be there
 prompt_in (Some world) left written written_now text front =
     prompt_none (replies_to_ended world) left written written_now text front
 

@@ -32,7 +32,7 @@ fit_under-round_first-requires t c =
               near_stale tree c.requires.table c.args.boxes.now c.in-Inner.number c.left-first.result
                   c.right-second.result kids c.args.moved.now c.parted.result.0.now c.parted.result.1.now
                   (subst (λ s. AreParted c.args.moved.now s c.parted.result.0.now c.parted.result.1.now)
-                  (ap (λ n. n.split) c.node_of-node.ensures) c.parted.ensures)
+                  (ap (λ n. n.split) c.node_of-node.ensures.value) c.parted.ensures)
                   (subst (AreFittedBut c.args.moved.now tree.keys c.args.boxes.now tree.nodes) c.in-Inner.is
                   c.requires.stale),
             ),
@@ -67,7 +67,7 @@ fit_under-round_second-requires t c =
               later_stale tree c.requires.table c.args.boxes.now c.in-Inner.number c.left-first.result
                   c.right-second.result kids c.args.moved.now c.parted.result.0.now c.parted.result.1.now
                   (subst (λ s. AreParted c.args.moved.now s c.parted.result.0.now c.parted.result.1.now)
-                  (ap (λ n. n.split) c.node_of-node.ensures) c.parted.ensures)
+                  (ap (λ n. n.split) c.node_of-node.ensures.value) c.parted.ensures)
                   (subst (AreFittedBut c.args.moved.now tree.keys c.args.boxes.now tree.nodes) c.in-Inner.is
                   c.requires.stale) later keys c.fit_under-round_first.ensures.kept,
             ),
@@ -76,6 +76,7 @@ fit_under-round_second-requires t c =
       ),
     )
 
+-- a node whose sides are fitted has the union of their boxes
 after : (t : ℕ) (c : After-put t) →
     HasUnion c.args.tree.now c.fit_under-round_second.new.tree c.put.new.self c.args.boxes.now c.in-Inner.number
     c.left-first.result c.right-second.result c.fit_under-round_first.result c.fit_under-round_second.result
@@ -130,7 +131,7 @@ returns-then-is_empty-clause-fit t c = λ a b range.
     let stale = subst (AreFittedBut c.args.moved.now tree.keys c.args.boxes.now tree.nodes) c.in-Inner.is
     c.requires.stale in
     none_stale_fit tree c.requires.table c.args.boxes.now c.args.moved.now c.in-Inner.number
-    c.node_of-node.result a b inside (nil_from_length c.args.moved.now (grind (arith, nat_tests, c.is_empty.ensures))) c.node_of-node.ensures stale
+    c.node_of-node.result a b inside (nil_from_length c.args.moved.now (grind (arith, nat_tests, c.is_empty.ensures))) c.node_of-node.ensures.value stale
     (subst (λ child. HasRange tree.keys child a b) c.in-Inner.is range)
 
 pub returns-then-is_empty-clause-made : goal.returns-then-is_empty-clause-made

@@ -5,24 +5,24 @@ use Rattle.walk_list.proofs.listing.+list_below.Goals as goal
 pub overflow_sub-node : goal.overflow_sub-node
 overflow_sub-node t c =
     let here = at_node c.requires.table c.requires.holds c.requires.child c.in-Inner.is in
-    read_order here c.node_of-node.result c.node_of-node.ensures
+    read_order here c.node_of-node.result c.node_of-node.ensures.value
 
 pub overflow_add-node : goal.overflow_add-node
 overflow_add-node t c =
     let here = at_node c.requires.table c.requires.holds c.requires.child c.in-Inner.is in
-    let small = read_small here c.node_of-node.result c.node_of-node.ensures in
+    let small = read_small here c.node_of-node.result c.node_of-node.ensures.value in
     omega (arith, small)
 
 pub returns-then-node-lt-RUN : goal.returns-then-node-lt-RUN
 returns-then-node-lt-RUN t c =
     let here = at_node c.requires.table c.requires.holds c.requires.child c.in-Inner.is in
-    run_for_child here c.node_of-node.result c.node_of-node.ensures c.args.records.now.items
+    run_for_child here c.node_of-node.result c.node_of-node.ensures.value c.args.records.now.items
     c.list_run-then-node-lt-RUN.new.records.items c.in_ok-list_run-in-Inner.ensures
 
 pub overflow_add-node-in-Inner : goal.overflow_add-node-in-Inner
 overflow_add-node-in-Inner t c =
     let here = at_node c.requires.table c.requires.holds c.requires.child c.in-Inner.is in
-    let small = read_small here c.node_of-node.result c.node_of-node.ensures in
+    let small = read_small here c.node_of-node.result c.node_of-node.ensures.value in
     omega (arith, small)
 
 pub list_below-requires : goal.list_below-requires
@@ -43,7 +43,7 @@ overflow_cast-escape t c =
     let own : c.len-own.result ≡ length c.args.records.now.items = search rules in
     let all : c.len.result ≡ length c.list_below-in-Inner.new.records.items = search rules in
     let small : length c.list_below-in-Inner.new.records.items - length c.args.records.now.items < 2 ^ 32 =
-    escape_small here c.node_of-node.result c.node_of-node.ensures c.left.result c.right.result c.left.ensures
+    escape_small here c.node_of-node.result c.node_of-node.ensures.value c.left.result c.right.result c.left.ensures
     c.right.ensures
     _ c.args.records.now.items c.push.new.self.items c.list_below.new.records.items
     c.list_below-in-Inner.new.records.items c.in_ok-push-in-Inner.ensures.items
@@ -53,7 +53,7 @@ overflow_cast-escape t c =
 pub overflow_add-node-in-Inner-2 : goal.overflow_add-node-in-Inner-2
 overflow_add-node-in-Inner-2 t c =
     let here = at_node c.requires.table c.requires.holds c.requires.child c.in-Inner.is in
-    let small = read_small here c.node_of-node.result c.node_of-node.ensures in
+    let small = read_small here c.node_of-node.result c.node_of-node.ensures.value in
     omega (arith, small)
 
 pub returns-in_ok-list_run-in-Leaf : goal.returns-in_ok-list_run-in-Leaf
@@ -67,7 +67,7 @@ returns-in_ok-list_below-in-Inner-2 t c =
     let here = at_node c.requires.table c.requires.holds c.requires.child c.in-Inner.is in
     let own : c.len-own.result ≡ length c.args.records.now.items = search rules in
     let all : c.len.result ≡ length c.list_below-in-Inner.new.records.items = search rules in
-    fork_for_child here c.node_of-node.result c.node_of-node.ensures c.left.result c.right.result c.left.ensures
+    fork_for_child here c.node_of-node.result c.node_of-node.ensures.value c.left.result c.right.result c.left.ensures
     c.right.ensures
     _ c.args.records.now.items c.push.new.self.items c.list_below.new.records.items
     c.list_below-in-Inner.new.records.items c.in_ok-push-in-Inner.ensures.items
