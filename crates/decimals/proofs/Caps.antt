@@ -8,6 +8,7 @@ use Rattle.decimals.proofs.Floors.{value_is}
 use Rattle.decimals.specs.declared.limits.TheConstants.{GREATEST, PAST_MOST_DIGITS}
 use Rattle.decimals.proofs.Scales.{rounded_up, rounded_down, rounded_past}
 
+-- a number times a power of ten past every value is cut off as that number times the greatest value is
 great : (n t : ℕ) → 12 < t → min (n * 10 ^ t) GREATEST ≡ min (n * GREATEST) GREATEST
 great zero t more = let e : 0 * 10 ^ t ≡ 0 * GREATEST = omega arith in ap (λ k. min k GREATEST) e
 great (suc n) t more = let p : GREATEST ≤ suc n * 10 ^ t =
@@ -28,6 +29,7 @@ far_down minus n raised down small far =
     (rounded_down minus n raised down (omega (arith, far))
     ∙ rounded_past minus n (down - raised) small (omega (arith, far)))
 
+-- a number is at most another, or the other is below it
 within : (a b : ℕ) → (a ≤ b) ⊎ (b < a)
 within zero b = inl (omega arith)
 within (suc a) zero = inr (omega arith)
@@ -50,6 +52,7 @@ same_size minus n places raised lowered c small far one = elim (within raised c)
   ]
 ]
 
+-- a number may be multiplied by the unit before or after another factor
 units_first : (m unit p : ℕ) → m * p * unit ≡ m * unit * p
 units_first m unit p = grind arith
 

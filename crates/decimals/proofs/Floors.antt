@@ -10,12 +10,14 @@ use Rattle.decimals.specs.Rounding.{rounded}
 use Rattle.decimals.specs.declared.limits.TheConstants.{GREATEST}
 use Rattle.decimals.proofs.Powers.{power_some}
 
+-- a quotient by twice a number above 0 grows by one where what is divided grows by the divisor
 one_more_down : (x d : ℕ) → 0 < d → (x + 2 * d) / (2 * d) ≡ suc (x / (2 * d))
 one_more_down x d some =
     let once : x + 2 * d ≡ x + 1 * (2 * d) = omega arith in
     ap (λ k. k / (2 * d)) once ∙ add-mul-div_right x 1 {z = 2 * d} (omega arith)
     ∙ (let e : x / (2 * d) + 1 ≡ suc (x / (2 * d)) = omega arith in e)
 
+-- 1/2 more than a number below 0, rounded down, by whether that number is below -1/2
 below_by : (m d : ℕ) (k : Bool) → nat_lt d (suc m) ≡ k → 0 < d
     → int_div_euclid (cond k (negsuc (suc m - suc d)) (pos (d - suc m))) (pos (2 * d))
     ≡ neg_ℤ (pos ((suc m + d - 1) / (2 * d)))
@@ -37,6 +39,7 @@ floor_below zero d some =
     ap pos here ∙ sym (ap (λ k. neg_ℤ (pos k)) there)
 floor_below (suc m) d some = below_by m d (nat_lt d (suc m)) refl some
 
+-- a natural number times the negative of another is the negative of their product
 times_below : (k v : ℕ) → pos k *ℤ neg_ℤ (pos v) ≡ neg_ℤ (pos (k * v))
 times_below k zero = let e : k * 0 ≡ 0 = omega arith in ap pos e ∙ sym (ap (λ n. neg_ℤ (pos n)) e)
 times_below k (suc v) = refl
@@ -67,10 +70,12 @@ value_is minus unit value places raised lowered =
     (nearest_rounds minus unit (value * 10 ^ raised) (10 ^ (places + lowered)) (power_some (places + lowered)))
     ∙ brought_in_signed minus (rounded minus (value * 10 ^ raised * unit) (10 ^ (places + lowered)))
 
+-- a natural number's bounds by two multiples next to each other hold over the integers too
 floor_law_above : (a b q : ℕ) → q * b ≤ a → a < q * b + b
     → ((pos b *ℤ pos q) ≤ℤ pos a) × (pos a <ℤ (pos b *ℤ (pos q +ℤ pos 1)))
 floor_law_above a b q low high = (grind (arith, ints, low), grind (arith, ints, high))
 
+-- and, turned about zero, they are bounds for the negative of the number one greater
 floor_law_below : (a b q : ℕ) → q * b ≤ a → a < q * b + b → ((pos b *ℤ negsuc q) ≤ℤ negsuc a)
     × (negsuc a <ℤ (pos b *ℤ (negsuc q +ℤ pos 1)))
 floor_law_below a b q low high = (grind (arith, ints, high), grind (arith, ints, low))

@@ -11,12 +11,15 @@ abbrev pub AreDigits : List ℕ → Type 0
 AreDigits [] = Unit {0}
 AreDigits (b ∷ bs) = (48 ≤ b) × (b ≤ 57) × AreDigits bs
 
+-- one digit more makes ten to the number of digits ten times as great
 power_more : (b : ℕ) (bs : List ℕ) → 10 ^ length (b ∷ bs) ≡ 10 ^ length bs * 10
 power_more b bs = grind arith
 
+-- what is at least ten times n and more, in some steps, is at least n in steps ten times as great
 lower_half : (n d t v : ℕ) → (n * 10 + d) * t ≤ v → n * (t * 10) ≤ v
 lower_half n d t v p = grind arith
 
+-- what is below the number next after n and a digit is below the next after n in steps ten times as great
 upper_half : (n d t v : ℕ) → d ≤ 9 → v < (n * 10 + d + 1) * t → v < (n + 1) * (t * 10)
 upper_half n d t v few p =
     let more : (n * 10 + d + 1) * t ≤ (n * 10 + 10) * t = mul-le-mul_right t (omega arith) in
@@ -36,15 +39,18 @@ bounds n (b ∷ bs) p =
       subst (λ k. value_after n (b ∷ bs) < (n + 1) * k) e high,
     )
 
+-- a number is at least 24 or at most 23
 within : (k : ℕ) → (24 ≤ k) ⊎ (k ≤ 23)
 within k = grind arith
 
+-- an exponent is at least 24, and its power of ten at least 10^24, or at most 23, and its power at most 10^23
 power_cases : (k : ℕ) → (24 ≤ k × 10 ^ 24 ≤ 10 ^ k) ⊎ (k ≤ 23 × 10 ^ k ≤ 10 ^ 23)
 power_cases k = elim (within k) [
   | inl p ↦ inl (p, pow-le-pow_right {n = 10} (omega arith) {i = 24} {j = k} p)
   | inr p ↦ inr (p, pow-le-pow_right {n = 10} (omega arith) {i = k} {j = 23} p)
 ]
 
+-- a number whose first digit is 1 to 9 is at least one step of that digit and below ten
 first_digit : (d t v : ℕ) → 1 ≤ d → d ≤ 9 → d * t ≤ v → v < (d + 1) * t → (t ≤ v) × (v < 10 * t)
 first_digit d t v some few p q =
     let low : 1 * t ≤ d * t = mul-le-mul_right t some in
@@ -58,6 +64,7 @@ long_first n v low high = elim (power_cases n) [
   | inr p ↦ (let less = p.0 in let small = p.1 in grind (arith, nat_tests))
 ]
 
+-- one digit more before digits that are too many exactly where their number is too large, by whether it is '0'
 long_by : (b : ℕ) (bs : List ℕ) (k : Bool) → (b == 48) ≡ k → AreDigits (b ∷ bs)
     → is_too_long bs ≡ nat_le PAST_MOST_DIGITS (value_after 0 bs)
     → nat_lt 24 (length (cond k (significant bs) (b ∷ bs)))
@@ -82,6 +89,7 @@ pub too_long_is : (ds : List ℕ) → AreDigits ds → is_too_long ds ≡ nat_le
 too_long_is [] p = refl
 too_long_is (b ∷ bs) p = long_by b bs (b == 48) refl p (too_long_is bs p.2)
 
+-- the digits at the front of a text with one byte more are digits, by whether that byte is one
 digits_by : (b : ℕ) (bs : List ℕ) (k : Bool) → is_digit b ≡ k → AreDigits (digits_of bs)
     → AreDigits (cond k (b ∷ digits_of bs) [])
 digits_by b bs true e p = (grind (arith, nat_tests, e), grind (arith, nat_tests, e), p)
@@ -92,14 +100,17 @@ pub digits_are : (text : List ℕ) → AreDigits (digits_of text)
 digits_are [] = tt {0}
 digits_are (b ∷ bs) = digits_by b bs (is_digit b) refl (digits_are bs)
 
+-- the digits at the front of a text are digits, whether they are taken or left out
 fraction_by : (k : Bool) (bs : List ℕ) → AreDigits (cond k (digits_of bs) [])
 fraction_by true bs = digits_are bs
 fraction_by false bs = tt {0}
 
+-- the digits behind a point at the front of a text are digits
 fraction_are : (text : List ℕ) → AreDigits (fraction_of text)
 fraction_are [] = tt {0}
 fraction_are (b ∷ bs) = fraction_by (b == 46) bs
 
+-- digits and then digits are digits
 both_are : (xs ys : List ℕ) → AreDigits xs → AreDigits ys → AreDigits (xs ++ ys)
 both_are [] ys p q = q
 both_are (b ∷ bs) ys p q = (p.0, p.1, both_are bs ys p.2 q)

@@ -12,6 +12,7 @@ power_some t = let p : 10 ^ 0 ≤ 10 ^ t = pow-le-pow_right {n = 10} (omega arit
 pub power_few : (t : ℕ) → t ≤ 18 → 10 ^ t ≤ 1000000000000000000
 power_few t few = pow-le-pow_right {n = 10} (omega arith) {i = t} {j = 18} few
 
+-- a product of at most 34 tens is at most 10^34
 pub power_most : (t : ℕ) → t ≤ 34 → 10 ^ t ≤ 10000000000000000000000000000000000
 power_most t few = pow-le-pow_right {n = 10} (omega arith) {i = t} {j = 34} few
 
@@ -19,6 +20,7 @@ power_most t few = pow-le-pow_right {n = 10} (omega arith) {i = t} {j = 34} few
 pub power_great : (t : ℕ) → 12 < t → 10000000000000 ≤ 10 ^ t
 power_great t more = pow-le-pow_right {n = 10} (omega arith) {i = 13} {j = t} (omega arith)
 
+-- a product of more than 34 tens is at least 10^35
 pub power_past : (t : ℕ) → 34 < t → 100000000000000000000000000000000000 ≤ 10 ^ t
 power_past t more = pow-le-pow_right {n = 10} (omega arith) {i = 35} {j = t} (omega arith)
 
@@ -47,12 +49,14 @@ abbrev ArePowers : ℕ → List ℕ → Type 0
 ArePowers k [] = Unit {0}
 ArePowers k (x ∷ xs) = (x ≡ 10 ^ k) × ArePowers (k + 1) xs
 
+-- in a list of powers of ten, the exponent at a place is that of the first and the place together
 power_among : (k i : ℕ) (xs : List ℕ) → ArePowers k xs → i < length xs → get_or xs i 0 ≡ 10 ^ (k + i)
 power_among k i [] p less = absurd (omega arith)
 power_among k zero (x ∷ xs) p less = p.0 ∙ ap (λ j. 10 ^ j) (let e : k ≡ k + 0 = omega arith in e)
 power_among k (suc i) (x ∷ xs) p less =
     power_among (k + 1) i xs p.1 (omega arith) ∙ ap (λ j. 10 ^ j) (let e : (k + 1) + i ≡ k + suc i = omega arith in e)
 
+-- the table holds the powers of ten from 10^0 on
 table : ArePowers 0 POWERS
 table = (
   refl,

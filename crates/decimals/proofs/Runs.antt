@@ -3,6 +3,7 @@ use Rattle.std.proofs.Common.{arith, ◌≡◌, ◌≤◌, ◌*◌, ◌+◌, ◌
 use Rattle.std.proofs.lemmas.Bool.Decides.{nat_tests}
 use Rattle.text_words.specs.Numbers.{is_digit, value_after, digits_of, past_digits}
 
+-- a number cut off before one digit more is, once cut off again, the same as one cut off only then
 cut_step : (n c d : ℕ) → min (min n c * 10 + d) c ≡ min (n * 10 + d) c
 cut_step n c d = grind arith
 
@@ -31,6 +32,7 @@ two_runs c v w xs ys p q =
     q ∙ ap (λ k. min (value_after k ys) c) p ∙ cut_off c (value_after 0 xs) ys
     ∙ ap (λ k. min k c) (sym (value_after-append 0 xs ys))
 
+-- the digits and what follows are as long as a text with one byte more, whether that counts as a digit or not
 digits_by : (b : ℕ) (bs : List ℕ) (k : Bool) → length (digits_of bs) + length (past_digits bs) ≡ length bs
     → length (cond k (b ∷ digits_of bs) []) + length (cond k (past_digits bs) (b ∷ bs)) ≡ length bs + 1
 digits_by b bs true e = omega (arith, e)
@@ -68,11 +70,13 @@ digits_next n at b text e digit =
     let rest = digits_of (drop (at + 1) text) in
     ap (λ k. value_after n (digits_of k)) e ∙ ap (λ k. value_after n (cond k (b ∷ rest) [])) digit
 
+-- what follows the digits from a digit on is what follows those from the byte behind it on
 pub past_next : (at b : ℕ) (text : List ℕ) → drop at text ≡ b ∷ drop (at + 1) text → is_digit b ≡ true
     → past_digits (drop at text) ≡ past_digits (drop (at + 1) text)
 past_next at b text e digit =
     ap past_digits e ∙ ap (λ k. cond k (past_digits (drop (at + 1) text)) (b ∷ drop (at + 1) text)) digit
 
+-- one byte more before a text that is its digits where nothing follows, whether it counts as a digit or not
 all_by : (b : ℕ) (bs : List ℕ) (k : Bool) → (past_digits bs ≡ [] → digits_of bs ≡ bs)
     → cond k (past_digits bs) (b ∷ bs) ≡ []
     → cond k (b ∷ digits_of bs) [] ≡ b ∷ bs

@@ -16,6 +16,7 @@ pub rounded_none : (minus : Bool) (n d : ℕ) → 2 * n < d → rounded minus n 
 rounded_none true n d less = div-eq_of_lt {n = 2 * n + d - 1} {m = 2 * d} (omega (arith, less))
 rounded_none false n d less = div-eq_of_lt {n = 2 * n + d} {m = 2 * d} (omega (arith, less))
 
+-- a number below another stays below it when both are multiplied by a factor above 0
 times_low : (q x c : ℕ) → 0 < c → q ≤ x - 1 → 0 < x → q * c ≤ x * c - 1
 times_low q x c some less more =
     let p : q * c ≤ (x - 1) * c = mul-le-mul_right c less in
@@ -24,6 +25,7 @@ times_low q x c some less more =
     let split : (x - 1) * c + c ≡ x * c = f ∙ ap (λ k. k * c) e in
     omega (arith, p, split, some)
 
+-- the bounds by the quotient of a number less 1 stay where number and divisor are multiplied by a factor above 0
 below_half : (q x y c : ℕ) → 0 < c → 0 < x → q * y ≤ x - 1 → x - 1 < q * y + y
     → (q * (y * c) ≤ x * c - 1) × (x * c - 1 < (q + 1) * (y * c))
 below_half q x y c some more low high =
@@ -51,6 +53,7 @@ rounded_shared true n d c some more =
     ap (λ k. (k - 1) / (2 * (d * c))) e ∙ ap (λ k. ((2 * n + d) * c - 1) / k) f
     ∙ div-eq_of_lt-le {k = q} (2 * d * c) {m = (2 * n + d) * c - 1} both.0 both.1
 
+-- a power of ten is one that is not higher times the power of the difference
 split_power : (a b : ℕ) → a ≤ b → 10 ^ b ≡ 10 ^ (b - a) * 10 ^ a
 split_power a b less = ap (λ k. 10 ^ k) (let e : b ≡ (b - a) + a = omega (arith, less) in e) ∙ pow-add 10 (b - a) a
 
@@ -88,6 +91,7 @@ pub size_up : (minus : Bool) (n up down : ℕ) → down ≤ up
     → min (n * 10 ^ (up - down)) GREATEST ≡ size_of minus n up down
 size_up minus n up down less = ap (λ k. min k GREATEST) (sym (rounded_up minus n up down less))
 
+-- where the exponent does not win, it is what is left of the division, rounded and cut off
 pub size_down : (minus : Bool) (n up down : ℕ) → up ≤ down
     → min (rounded minus n (10 ^ (down - up))) GREATEST ≡ size_of minus n up down
 size_down minus n up down less = ap (λ k. min k GREATEST) (sym (rounded_down minus n up down less))

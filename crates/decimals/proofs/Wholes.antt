@@ -20,13 +20,16 @@ pub record IsAllDigits (word : List ℕ) (value count : ℕ) (rest : List ℕ) :
   pub some : count ≡ 0 → ⊥
   pub none : length rest ≡ 0
 
+-- a text whose length is not 0 is a word
 some_word : (ds : List ℕ) → (length ds ≡ 0 → ⊥) → is_word ds ≡ true
 some_word [] some = absurd (some refl)
 some_word (b ∷ bs) some = refl
 
+-- an empty text is no word
 no_word : (bs : List ℕ) → bs ≡ [] → is_word bs ≡ false
 no_word bs e = ap is_word e
 
+-- a word that is all digits has nothing behind them and the form of a whole number
 whole_form : (word : List ℕ) (value count : ℕ) (rest : List ℕ) → IsAllDigits word value count rest
     → (past_digits word ≡ []) × (is_whole word ≡ true)
 whole_form word value count rest p =
@@ -34,6 +37,7 @@ whole_form word value count rest p =
     let some : is_word (digits_of word) ≡ true = some_word (digits_of word) (λ e. p.some (p.count_is ∙ e)) in
     (none, ap (λ k. k && not (is_word (past_digits word))) some ∙ ap (λ k. not k) (no_word (past_digits word) none))
 
+-- its value is the number that it writes, cut off, and it is too long exactly where that number is too large
 whole_length : (word : List ℕ) (value count : ℕ) (rest : List ℕ) → IsAllDigits word value count rest
     → (value ≡ min (value_after 0 word) PAST_MOST_DIGITS)
     × (is_too_long word ≡ nat_le PAST_MOST_DIGITS (value_after 0 word))
@@ -43,6 +47,7 @@ whole_length word value count rest p =
       too_long_is word (subst AreDigits all (digits_are word)),
     )
 
+-- the answer for a whole number, by whether it has too many digits
 whole_by : (b : Bool) (word : List ℕ) (v : Result ℕ NumberFault) → is_whole word ≡ true → is_too_long word ≡ b
     → cond b (Err TooLong) (Ok (min (value_after 0 word) GREATEST)) ≡ v → v ≡ whole_of word
 whole_by b word v e f g =

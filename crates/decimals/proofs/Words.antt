@@ -15,6 +15,7 @@ use Rattle.decimals.proofs.Runs.{two_runs, value_after-append}
 use Rattle.decimals.proofs.Lengths.{too_long_is, mantissa_are}
 use Rattle.decimals.proofs.Caps.{same_value}
 
+-- two texts together are a word exactly where their lengths together are above 0
 is_word-append : (xs ys : List ℕ) → is_word (xs ++ ys) ≡ nat_lt 0 (length xs + length ys)
 is_word-append [] [] = refl
 is_word-append [] (b ∷ bs) = grind (arith, nat_tests)
@@ -29,6 +30,7 @@ no_digit word before behind p q e =
     (is_word-append (whole_part word) (fraction_part word)
     ∙ ap (λ k. nat_lt 0 (k + length (fraction_part word))) (sym p) ∙ ap (λ k. nat_lt 0 (before + k)) (sym q) ∙ e)
 
+-- a test and one that fails fail together
 and_false : (a : Bool) → a && false ≡ false
 and_false true = refl
 and_false false = refl
@@ -60,6 +62,7 @@ pub record AreParts (word : List ℕ) (d : Decimal) (whole before : ℕ) : Type 
   pub lowered : d.lowered ≡ min (lowered_by (ending_part word)) PAST_MOST_DIGITS
   pub one : (d.raised ≡ 0) ⊎ (d.lowered ≡ 0)
 
+-- a word whose parts were read is read as the decimal that they make
 pub parts_read : (word : List ℕ) (d : Decimal) (whole before : ℕ) → AreParts word d whole before → IsReadAs word d
 parts_read word d whole before p = record {
   decimal = both_there word before d.places p.before_is p.places p.some p.ends;
@@ -85,6 +88,7 @@ front_some text before behind p q e =
     is_word-append (whole_part text) (fraction_part text)
     ∙ ap (λ k. nat_lt 0 (k + length (fraction_part text))) (sym p) ∙ ap (λ k. nat_lt 0 (before + k)) (sym q) ∙ e
 
+-- a rest of length 0 is empty
 none_left : (rest : List ℕ) → length rest ≡ 0 → rest ≡ []
 none_left [] e = refl
 none_left (b ∷ bs) e = absurd (omega (arith, e))
@@ -122,6 +126,7 @@ abbrev value_of : ℕ → Bool → ℕ → ℕ → ℕ → ℕ → ℤ
 value_of unit minus value places raised lowered =
     brought_in (nearest_step unit (scaled minus value places raised lowered))
 
+-- where the digits fit, the grid value of the parts read is that of the word's own, its exponents cut off
 same_parts : (unit : ℕ) (word : List ℕ) (d : Decimal) → IsReadAs word d → d.mantissa < PAST_MOST_DIGITS
     → value_of unit d.minus d.mantissa d.places d.raised d.lowered
     ≡ value_of unit (starts_minus word) (value_after 0 (mantissa_digits word)) (length (fraction_part word))
@@ -138,9 +143,11 @@ same_parts unit word d r few =
     ∙ ap (λ k. value_of unit minus value places k d.lowered) r.raised
     ∙ ap (value_of unit minus value places raised) r.lowered
 
+-- where one of two numbers is 0, so is one of two that equal them
 one_is_none : (a b c d : ℕ) → a ≡ c → b ≡ d → (a ≡ 0) ⊎ (b ≡ 0) → (c ≡ 0) ⊎ (d ≡ 0)
 one_is_none a b c d e f one = elim one [ inl p ↦ inl (sym e ∙ p) | inr p ↦ inr (sym f ∙ p) ]
 
+-- the grid value of a decimal that is not too long is the step nearest to what it writes, brought in
 ok_of : (unit : ℕ) (word : List ℕ) → is_decimal word ≡ true → is_too_long (mantissa_digits word) ≡ false
     → grid_of unit word ≡ Ok (brought_in (nearest_step unit (fraction_written word)))
 ok_of unit word decimal short =
