@@ -19,64 +19,64 @@ use Rattle.command_line.proofs.Options.{chosen, mapped}
 use Rattle.command_line.proofs.PlanParts.{made_of}
 
 -- a number that is read is in its range
-number_bounds : (least most : ℕ) (text : Text) (n : ℕ) → number_in least most text ≡ Some n
-    → (least ≤ n) × (n ≤ most)
-number_bounds least most text n e = go (nat_lt MOST_DIGITS (length text)) (whole_of text) e
+number_bounds : (least most : ℕ) (text : Text) (number : ℕ) → number_in least most text ≡ Some number
+    → (least ≤ number) × (number ≤ most)
+number_bounds least most text number known = go (nat_lt MOST_DIGITS (length text)) (whole_of text) known
   where
-    go : (long : Bool) (r : Result ℕ NumberFault) → (if long then None else within least most r) ≡ Some n
-        → (least ≤ n) × (n ≤ most)
-    go false (Ok m) h =
-        let tests = chosen (nat_le least m && nat_le m most) (Some m) n h in
-        let both = and_parts (nat_le least m) (nat_le m most) tests.0 in
-        let low = leb-true least m both.0 in
-        let high = leb-true m most both.1 in
-        let same : m ≡ n = cc in
+    go : (long : Bool) (result : Result ℕ NumberFault) → (if long then None else within least most result) ≡ Some number
+        → (least ≤ number) × (number ≤ most)
+    go false (Ok read) holds =
+        let tests = chosen (nat_le least read && nat_le read most) (Some read) number holds in
+        let both = and_parts (nat_le least read) (nat_le read most) tests.0 in
+        let low = leb-true least read both.0 in
+        let high = leb-true read most both.1 in
+        let same : read ≡ number = cc in
         (omega arith, omega arith)
-    go _ _ h = absurd cc
+    go _ _ holds = absurd cc
 
 -- a number that is read, or its default, is in its range
-choice_bounds : (default most : ℕ) (text : Option Text) (n : ℕ) → 1 ≤ default → default ≤ most
-    → read_or default (number_in 1 most) text ≡ Some n → (1 ≤ n) × (n ≤ most)
-choice_bounds default most None n low high e = let same : default ≡ n = cc in (omega arith, omega arith)
-choice_bounds default most (Some text) n low high e = number_bounds 1 most text n e
+choice_bounds : (default most : ℕ) (text : Option Text) (number : ℕ) → 1 ≤ default → default ≤ most
+    → read_or default (number_in 1 most) text ≡ Some number → (1 ≤ number) × (number ≤ most)
+choice_bounds default most None number low high known = let same : default ≡ number = cc in (omega arith, omega arith)
+choice_bounds default most (Some text) number low high known = number_bounds 1 most text number known
 
 -- the place of the MESH word is that of a word
 mesh_within : (is_value : Bool) (from : ℕ) (words : List Text) (place : ℕ)
     → mesh_from is_value from words ≡ Some place → place < from + length words
-mesh_within is_value from [] place e = absurd cc
-mesh_within true from (word ∷ words) place e =
-    let later = mesh_within false (from + 1) words place e in omega arith
-mesh_within false from (word ∷ words) place e = go (starts_minus word) (mesh_within _ (from + 1) words place) e
+mesh_within is_value from [] place known = absurd cc
+mesh_within true from (word ∷ words) place known =
+    let later = mesh_within false (from + 1) words place known in omega arith
+mesh_within false from (word ∷ words) place known = go (starts_minus word) (mesh_within _ (from + 1) words place) known
   where
     next : Option ℕ
-    next = mesh_from (not (list_any (λ b. b == 61) word)) (from + 1) words
+    next = mesh_from (not (list_any (λ byte. byte == 61) word)) (from + 1) words
 
     go : (minus : Bool) → (next ≡ Some place → place < from + 1 + length words)
         → (if minus then next else Some from) ≡ Some place → place < from + length (word ∷ words)
-    go true later h = let bound = later h in omega arith
-    go false later h = let same : from ≡ place = cc in omega arith
+    go true later holds = let bound = later holds in omega arith
+    go false later holds = let same : from ≡ place = cc in omega arith
 
 -- the input is of the words, or its number is in its range
 input_bounds : (count : ℕ) (mesh grid unit : Option Text) (place : Option ℕ) (input : Input)
     → ((at : ℕ) → place ≡ Some at → at < count) → input_from mesh grid unit place ≡ Some input
     → IsInputIn count input
-input_bounds count (Some mesh) None unit place input inside e =
-    let file = mapped File place input (chosen (is_mesh mesh) _ input e).1 in
+input_bounds count (Some mesh) None unit place input inside known =
+    let file = mapped File place input (chosen (is_mesh mesh) _ input known).1 in
     subst (IsInputIn count) file.2 (inside file.0 file.1)
-input_bounds count None (Some grid) None place input inside e =
-    let squares = mapped Grid (number_in LEAST_GRID MOST_GRID grid) input e in
+input_bounds count None (Some grid) None place input inside known =
+    let squares = mapped Grid (number_in LEAST_GRID MOST_GRID grid) input known in
     subst (IsInputIn count) squares.2 (number_bounds LEAST_GRID MOST_GRID grid squares.0 squares.1)
-input_bounds count _ _ _ place input inside e = absurd cc
+input_bounds count _ _ _ place input inside known = absurd cc
 
 -- so every plan is in its bounds
-pub in_bounds : (words : List Text) (rs : List Row) (plan : Plan)
-    → row_plan (mesh_from false 0 words) rs ≡ Some plan → IsInBounds (length words) plan
-in_bounds words rs plan e =
-    let first : Text → Option Text = λ id. first_of id rs in
+pub in_bounds : (words : List Text) (found_rows : List Row) (plan : Plan)
+    → row_plan (mesh_from false 0 words) found_rows ≡ Some plan → IsInBounds (length words) plan
+in_bounds words found_rows plan known =
+    let first : Text → Option Text = λ id. first_of id found_rows in
     let worker_bounds =
     choice_bounds WORKERS MOST_WORKERS (first (codes "workers")) plan.workers (omega arith) (omega arith) in
     let unit_bounds = choice_bounds UNIT UNIT_MAX (first (codes "unit")) plan.unit (omega arith) (omega arith) in
-    let parts = made_of _ _ _ _ plan e in
+    let parts = made_of _ _ _ _ plan known in
     let workers = worker_bounds parts.workers_are in
     let unit = unit_bounds parts.unit_is in
     record {

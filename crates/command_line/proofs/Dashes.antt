@@ -11,38 +11,41 @@ use Rattle.command_line.specs.Uses.{found, has_dashes, mesh_from, row_plan}
 use Rattle.command_line.proofs.SamePlan.{same_plan}
 
 -- a word before none makes none
-none_joined : (p : Part) (later : Option (List Item)) (waiting : Name → Option (List Item)) → later ≡ None
-    → ((n : Name) → waiting n ≡ None) → joined p later waiting ≡ None
-none_joined (part.Whole i) later waiting none none_waiting = rw none refl
-none_joined (part.Front n) later waiting none none_waiting = none_waiting n
+none_joined : (part_read : Part) (later : Option (List Item)) (waiting : Name → Option (List Item)) → later ≡ None
+    → ((option_name : Name) → waiting option_name ≡ None) → joined part_read later waiting ≡ None
+none_joined (part.Whole read) later waiting none none_waiting = rw none refl
+none_joined (part.Front option_name) later waiting none none_waiting = none_waiting option_name
 none_joined part.Neither later waiting none none_waiting = refl
 
 -- words with a `--` among them make no items
-no_items : (w : Option Name) (place : ℕ) (words : List Text) → has_dashes words ≡ true
-    → items_from w place words ≡ None
-no_items w place [] e = absurd cc
-no_items w place (word ∷ words) e = go w (bytes_eq word (codes "--")) refl
-    (no_items None (place + 1) words) (λ n. no_items (Some n) (place + 1) words)
+no_items : (due : Option Name) (place : ℕ) (words : List Text) → has_dashes words ≡ true
+    → items_from due place words ≡ None
+no_items due place [] known = absurd cc
+no_items due place (word ∷ words) known = go due (bytes_eq word (codes "--")) refl
+    (no_items None (place + 1) words) (λ option_name. no_items (Some option_name) (place + 1) words)
   where
-    go : (w : Option Name) (is : Bool) → bytes_eq word (codes "--") ≡ is
+    go : (due : Option Name) (is : Bool) → bytes_eq word (codes "--") ≡ is
         → (has_dashes words ≡ true → items_from None (place + 1) words ≡ None)
-        → ((n : Name) → has_dashes words ≡ true → items_from (Some n) (place + 1) words ≡ None)
-        → items_from w place (word ∷ words) ≡ None
+        → ((option_name : Name) → has_dashes words ≡ true → items_from (Some option_name) (place + 1) words ≡ None)
+        → items_from due place (word ∷ words) ≡ None
     go None true is later waiting = rw ((bytes_eq-Decides word (codes "--")).0 is) refl
-    go (Some n) true is later waiting = rw ((bytes_eq-Decides word (codes "--")).0 is) refl
-    go None false is later waiting = none_joined _ _ _ (later (rw is at e)) (λ n. waiting n (rw is at e))
-    go (Some m) false is later waiting = none_joined _ _ _ (later (rw is at e)) (λ n. waiting n (rw is at e))
+    go (Some option_name) true is later waiting = rw ((bytes_eq-Decides word (codes "--")).0 is) refl
+    go None false is later waiting =
+        none_joined _ _ _ (later (rw is at known)) (λ option_name. waiting option_name (rw is at known))
+    go (Some other) false is later waiting =
+        none_joined _ _ _ (later (rw is at known)) (λ option_name. waiting option_name (rw is at known))
 
 -- so they make no plan
 pub dashes_refused : (words : List Text) → has_dashes words ≡ true → plan_of words ≡ None
-dashes_refused words e = ap (option_and_then item_plan) (no_items None 0 words e)
+dashes_refused words known = ap (option_and_then item_plan) (no_items None 0 words known)
 
 -- nor do words in which nothing is found
 pub unfound_refused : (words : List Text) → has_dashes words ≡ false → found words ≡ None → plan_of words ≡ None
-unfound_refused words undashed e =
-    same_plan words undashed ∙ ap (option_and_then (row_plan (mesh_from false 0 words))) e
+unfound_refused words undashed known =
+    same_plan words undashed ∙ ap (option_and_then (row_plan (mesh_from false 0 words))) known
 
 -- all others make the plan of what is found
-pub found_plan : (words : List Text) (rs : List Row) → has_dashes words ≡ false → found words ≡ Some rs
-    → plan_of words ≡ row_plan (mesh_from false 0 words) rs
-found_plan words rs undashed e = same_plan words undashed ∙ ap (option_and_then (row_plan (mesh_from false 0 words))) e
+pub found_plan : (words : List Text) (found_rows : List Row) → has_dashes words ≡ false → found words ≡ Some found_rows
+    → plan_of words ≡ row_plan (mesh_from false 0 words) found_rows
+found_plan words found_rows undashed known =
+    same_plan words undashed ∙ ap (option_and_then (row_plan (mesh_from false 0 words))) known

@@ -11,27 +11,27 @@ use Rattle.command_line.specs.Items.{value_part, front_part, long_part}
 
 -- the byte is `=`
 abbrev pub is_equals : ℕ → Bool
-is_equals b = b == 61
+is_equals byte = byte == 61
 
 -- the first `=` stands within the text where there is one
 first_within : (text : Text) → nat_lt (position_or_len is_equals text) (length text) ≡ has_byte 61 text
 first_within [] = refl
-first_within (b ∷ bs) = go (b == 61) refl (first_within bs)
+first_within (byte ∷ rest) = go (byte == 61) refl (first_within rest)
   where
-    go : (is : Bool) → (b == 61) ≡ is → nat_lt (position_or_len is_equals bs) (length bs) ≡ has_byte 61 bs
-        → nat_lt (position_or_len is_equals (b ∷ bs)) (length (b ∷ bs)) ≡ has_byte 61 (b ∷ bs)
-    go true e later = rw e (grind (arith, nat_tests))
-    go false e later = rw (e, ← later) (grind (arith, nat_tests))
+    go : (is : Bool) → (byte == 61) ≡ is → nat_lt (position_or_len is_equals rest) (length rest) ≡ has_byte 61 rest
+        → nat_lt (position_or_len is_equals (byte ∷ rest)) (length (byte ∷ rest)) ≡ has_byte 61 (byte ∷ rest)
+    go true known later = rw known (grind (arith, nat_tests))
+    go false known later = rw (known, ← later) (grind (arith, nat_tests))
 
 -- with a `=` the text is a name and a value
 pub long_with : (text : Text) → has_byte 61 text ≡ true
     → long_part text ≡ value_part (name_of (before_first is_equals text)) (after_first is_equals text)
-long_with text e = rw (first_within text ∙ e) refl
+long_with text known = rw (first_within text ∙ known) refl
 
 -- without one it is a name alone
 pub long_alone : (text : Text) → has_byte 61 text ≡ false → long_part text ≡ front_part (name_of text)
-long_alone text e = rw (first_within text ∙ e) refl
+long_alone text known = rw (first_within text ∙ known) refl
 
 -- and all of it stands before the first
 pub name_alone : (text : Text) → has_byte 61 text ≡ false → before_first is_equals text ≡ text
-name_alone text e = take_all _ text (ltb-false _ _ (first_within text ∙ e))
+name_alone text known = take_all _ text (ltb-false _ _ (first_within text ∙ known))

@@ -15,62 +15,67 @@ use Rattle.command_line.proofs.OneCommand.{rule_at}
 -- a list has no fault
 abbrev pub clear : Kinds → Bool
 clear [] = true
-clear (k ∷ ks) = false
+clear (fault ∷ faults) = false
 
 -- a change of a row that is not there puts the missing rows behind all
-put_absent : (id : Text) (change : Row → List Row) (missing rs : List Row) → has_row id rs ≡ false
-    → at_row id change missing rs ≡ rs ++ missing
-put_absent id change missing [] e = refl
-put_absent id change missing (r ∷ rs) e = go (bytes_eq r.id id) refl (put_absent id change missing rs)
+put_absent : (id : Text) (change : Row → List Row) (missing later_rows : List Row) → has_row id later_rows ≡ false
+    → at_row id change missing later_rows ≡ later_rows ++ missing
+put_absent id change missing [] known = refl
+put_absent id change missing (row ∷ later_rows) known =
+    go (bytes_eq row.id id) refl (put_absent id change missing later_rows)
   where
-    go : (is : Bool) → bytes_eq r.id id ≡ is → (has_row id rs ≡ false → at_row id change missing rs ≡ rs ++ missing)
-        → at_row id change missing (r ∷ rs) ≡ (r ∷ rs) ++ missing
-    go true is later = let no : true ≡ false = rw is at e in absurd cc
-    go false is later = let rest : has_row id rs ≡ false = rw is at e in rw is (ap (λ l. r ∷ l) (later rest))
+    go : (is : Bool) → bytes_eq row.id id ≡ is
+        → (has_row id later_rows ≡ false → at_row id change missing later_rows ≡ later_rows ++ missing)
+        → at_row id change missing (row ∷ later_rows) ≡ (row ∷ later_rows) ++ missing
+    go true is later = let no : true ≡ false = rw is at known in absurd cc
+    go false is later =
+        let rest : has_row id later_rows ≡ false = rw is at known in rw is (ap (λ all. row ∷ all) (later rest))
 
 -- the use of an argument that was not seen adds its row
-pub used_absent : (k : Option Name) (text : Text) (us : List Use) → seen k us ≡ false
-    → used (rule_at k) (text ∷ []) (rows us) ≡ rows (us ++ (k, text) ∷ [])
-used_absent k text us e = replaced k ∙ ap put without_it
-    ∙ put_absent (key_text k) (more_values CommandLine (text ∷ [])) (use_row (k, text) ∷ []) (rows us) e
-    ∙ sym (map-append use_row us ((k, text) ∷ []))
+pub used_absent : (key : Option Name) (text : Text) (uses : List Use) → seen key uses ≡ false
+    → used (rule_at key) (text ∷ []) (rows uses) ≡ rows (uses ++ (key, text) ∷ [])
+used_absent key text uses known = replaced key ∙ ap put without_it
+    ∙ put_absent (key_text key) (more_values CommandLine (text ∷ [])) (use_row (key, text) ∷ []) (rows uses) known
+    ∙ sym (map-append use_row uses ((key, text) ∷ []))
   where
     put : List Row → List Row
-    put = at_row (key_text k) (more_values CommandLine (text ∷ [])) (use_row (k, text) ∷ [])
+    put = at_row (key_text key) (more_values CommandLine (text ∷ [])) (use_row (key, text) ∷ [])
 
-    without_it : at_row (key_text k) (λ _. []) [] (rows us) ≡ rows us
-    without_it = put_absent (key_text k) (λ _. []) [] (rows us) e ∙ append-nil (rows us)
+    without_it : at_row (key_text key) (λ _. []) [] (rows uses) ≡ rows uses
+    without_it = put_absent (key_text key) (λ _. []) [] (rows uses) known ∙ append-nil (rows uses)
 
-    replaced : (j : Option Name) → used (rule_at j) (text ∷ []) (rows us)
-        ≡ at_row (key_text j) (more_values CommandLine (text ∷ [])) (use_row (j, text) ∷ [])
-        (at_row (key_text j) (λ _. []) [] (rows us))
+    replaced : (other : Option Name) → used (rule_at other) (text ∷ []) (rows uses)
+        ≡ at_row (key_text other) (more_values CommandLine (text ∷ [])) (use_row (other, text) ∷ [])
+        (at_row (key_text other) (λ _. []) [] (rows uses))
     replaced None = refl
-    replaced (Some n) = refl
+    replaced (Some option_name) = refl
 
 -- the use of an argument passes where that was not seen, and has no fault there
-pub use_once : (k : Option Name) (text : Text) (us : List Use)
-    → (use_passes false (rule_at k) (text ∷ []) (rows us) ≡ not (seen k us))
-    × (clear (use_fault false (rule_at k) (text ∷ []) (rows us)) ≡ not (seen k us))
-use_once k text us = go k (seen k us) refl
+pub use_once : (key : Option Name) (text : Text) (uses : List Use)
+    → (use_passes false (rule_at key) (text ∷ []) (rows uses) ≡ not (seen key uses))
+    × (clear (use_fault false (rule_at key) (text ∷ []) (rows uses)) ≡ not (seen key uses))
+use_once key text uses = go key (seen key uses) refl
   where
-    go : (j : Option Name) (is : Bool) → seen j us ≡ is
-        → (use_passes false (rule_at j) (text ∷ []) (rows us) ≡ not (seen j us))
-        × (clear (use_fault false (rule_at j) (text ∷ []) (rows us)) ≡ not (seen j us))
-    go None true e = (rw e refl, rw e refl)
-    go None false e = (rw e refl, rw e refl)
-    go (Some n) true e = (rw e refl, rw e refl)
-    go (Some n) false e = (rw e refl, rw e refl)
+    go : (other : Option Name) (is : Bool) → seen other uses ≡ is
+        → (use_passes false (rule_at other) (text ∷ []) (rows uses) ≡ not (seen other uses))
+        × (clear (use_fault false (rule_at other) (text ∷ []) (rows uses)) ≡ not (seen other uses))
+    go None true known = (rw known refl, rw known refl)
+    go None false known = (rw known refl, rw known refl)
+    go (Some option_name) true known = (rw known refl, rw known refl)
+    go (Some option_name) false known = (rw known refl, rw known refl)
 
 -- what uses end in with one more before the rest
-pub ends_more : (us : List Use) (u : Use) (rest : Option (List Use))
-    → ends us (option_map (λ later. u ∷ later) rest) ≡ (if seen u.0 us then None else ends (us ++ u ∷ []) rest)
-ends_more us u rest = go (seen u.0 us) refl rest
+pub ends_more : (uses : List Use) (one : Use) (rest : Option (List Use))
+    → ends uses (option_map (λ later. one ∷ later) rest)
+    ≡ (if seen one.0 uses then None else ends (uses ++ one ∷ []) rest)
+ends_more uses one rest = go (seen one.0 uses) refl rest
   where
-    go : (is : Bool) → seen u.0 us ≡ is → (rest : Option (List Use))
-        → ends us (option_map (λ later. u ∷ later) rest) ≡ (if seen u.0 us then None else ends (us ++ u ∷ []) rest)
-    go true e None = rw e refl
-    go false e None = rw e refl
-    go true e (Some later) = rw e refl
-    go false e (Some later) =
-        rw e (ap (λ (l : List Use). if fresh (us ++ u ∷ []) later then Some (rows l) else None)
-        (sym (append_assoc us (u ∷ []) later)))
+    go : (is : Bool) → seen one.0 uses ≡ is → (rest : Option (List Use))
+        → ends uses (option_map (λ later. one ∷ later) rest)
+        ≡ (if seen one.0 uses then None else ends (uses ++ one ∷ []) rest)
+    go true known None = rw known refl
+    go false known None = rw known refl
+    go true known (Some later) = rw known refl
+    go false known (Some later) =
+        rw known (ap (λ (all : List Use). if fresh (uses ++ one ∷ []) later then Some (rows all) else None)
+        (sym (append_assoc uses (one ∷ []) later)))

@@ -22,64 +22,70 @@ ReadsAs read text value = read text ≡ Some value
 
 -- each value is that of its text
 abbrev pub Pairs : {A : Type 0} → (Text → A → Type 0) → List Text → List A → Type 0
-Pairs R [] [] = ⊤
-Pairs R (t ∷ ts) (v ∷ vs) = R t v × Pairs R ts vs
-Pairs R _ _ = ⊥
+Pairs Fits [] [] = ⊤
+Pairs Fits (text ∷ spelled) (value ∷ values) = Fits text value × Pairs Fits spelled values
+Pairs Fits _ _ = ⊥
 
 -- the only value is that of the only text
 abbrev pub Only : {A : Type 0} → (Text → A → Type 0) → Option Text → List A → Type 0
-Only R None [] = ⊤
-Only R (Some t) (v ∷ []) = R t v
-Only R _ _ = ⊥
+Only Fits None [] = ⊤
+Only Fits (Some text) (value ∷ []) = Fits text value
+Only Fits _ _ = ⊥
 
 -- there are as many values as texts
-pub as_many : {A : Type 0} (R : Text → A → Type 0) (ts : List Text) (vs : List A) → Pairs R ts vs
-    → length ts ≡ length vs
-as_many R [] [] h = refl
-as_many R (t ∷ ts) (v ∷ vs) h = let later = as_many R ts vs h.1 in omega arith
-as_many R _ _ h = absurd h
+pub as_many : {A : Type 0} (Fits : Text → A → Type 0) (spelled : List Text) (values : List A)
+    → Pairs Fits spelled values → length spelled ≡ length values
+as_many Fits [] [] fit = refl
+as_many Fits (text ∷ spelled) (value ∷ values) fit = let later = as_many Fits spelled values fit.1 in omega arith
+as_many Fits _ _ fit = absurd fit
 
 -- of at most one text at most one value is read
-pub only : {A : Type 0} (R : Text → A → Type 0) (ts : List Text) (vs : List A) → length ts ≤ 1 → Pairs R ts vs
-    → Only R (slice_get ts 0) vs
-only R [] [] few h = tt
-only R (t ∷ []) (v ∷ []) few h = h.0
-only R (t ∷ []) (v ∷ w ∷ vs) few h = absurd h.1
-only R (t ∷ s ∷ ts) vs few h = absurd (omega arith)
-only R _ _ few h = absurd h
+pub only : {A : Type 0} (Fits : Text → A → Type 0) (spelled : List Text) (values : List A) → length spelled ≤ 1
+    → Pairs Fits spelled values → Only Fits (slice_get spelled 0) values
+only Fits [] [] few fit = tt
+only Fits (text ∷ []) (value ∷ []) few fit = fit.0
+only Fits (text ∷ []) (value ∷ second ∷ values) few fit = absurd fit.1
+only Fits (text ∷ next ∷ spelled) values few fit = absurd (omega arith)
+only Fits _ _ few fit = absurd fit
 
 -- the values of each argument are those of its texts
-pub record IsGathered (us : List Use) (items : List Item) : Type 0 where
-  pub meshes : Pairs NamesMesh (texts None us) (filter_map mesh_place items)
-  pub grids : Pairs (ReadsAs (number_in LEAST_GRID MOST_GRID)) (texts (Some name.Grid) us)
+pub record IsGathered (uses : List Use) (items : List Item) : Type 0 where
+  pub meshes : Pairs NamesMesh (texts None uses) (filter_map mesh_place items)
+  pub grids : Pairs (ReadsAs (number_in LEAST_GRID MOST_GRID)) (texts (Some name.Grid) uses)
       (filter_map grid_squares items)
-  pub workers : Pairs (ReadsAs (number_in 1 MOST_WORKERS)) (texts (Some name.Workers) us)
+  pub workers : Pairs (ReadsAs (number_in 1 MOST_WORKERS)) (texts (Some name.Workers) uses)
       (filter_map worker_count items)
-  pub builds : Pairs (ReadsAs build_of) (texts (Some name.Build) us) (filter_map build_named items)
-  pub units : Pairs (ReadsAs (number_in 1 UNIT_MAX)) (texts (Some name.Unit) us) (filter_map unit_steps items)
+  pub builds : Pairs (ReadsAs build_of) (texts (Some name.Build) uses) (filter_map build_named items)
+  pub units : Pairs (ReadsAs (number_in 1 UNIT_MAX)) (texts (Some name.Unit) uses) (filter_map unit_steps items)
 
 -- so they are where each is
-all_five : {us : List Use} {items : List Item} → Pairs NamesMesh (texts None us) (filter_map mesh_place items)
-    → Pairs (ReadsAs (number_in LEAST_GRID MOST_GRID)) (texts (Some name.Grid) us) (filter_map grid_squares items)
-    → Pairs (ReadsAs (number_in 1 MOST_WORKERS)) (texts (Some name.Workers) us) (filter_map worker_count items)
-    → Pairs (ReadsAs build_of) (texts (Some name.Build) us) (filter_map build_named items)
-    → Pairs (ReadsAs (number_in 1 UNIT_MAX)) (texts (Some name.Unit) us) (filter_map unit_steps items)
-    → IsGathered us items
-all_five m g w b u = record { meshes = m; grids = g; workers = w; builds = b; units = u }
+all_five : {uses : List Use} {items : List Item} → Pairs NamesMesh (texts None uses) (filter_map mesh_place items)
+    → Pairs (ReadsAs (number_in LEAST_GRID MOST_GRID)) (texts (Some name.Grid) uses) (filter_map grid_squares items)
+    → Pairs (ReadsAs (number_in 1 MOST_WORKERS)) (texts (Some name.Workers) uses) (filter_map worker_count items)
+    → Pairs (ReadsAs build_of) (texts (Some name.Build) uses) (filter_map build_named items)
+    → Pairs (ReadsAs (number_in 1 UNIT_MAX)) (texts (Some name.Unit) uses) (filter_map unit_steps items)
+    → IsGathered uses items
+all_five meshes grids workers builds units =
+    record { meshes = meshes; grids = grids; workers = workers; builds = builds; units = units }
 
 -- the items of uses are gathered
-pub gathered : (us : List Use) (items : List Item) → AreRead us items → IsGathered us items
-gathered [] [] h = record { meshes = tt; grids = tt; workers = tt; builds = tt; units = tt }
-gathered ((None, text) ∷ us) (item.Mesh place ∷ items) h =
-    let l = gathered us items h.1 in all_five (h.0, l.meshes) l.grids l.workers l.builds l.units
-gathered ((Some name.Grid, text) ∷ us) (item.Grid squares ∷ items) h =
-    let l = gathered us items h.1 in all_five l.meshes (h.0, l.grids) l.workers l.builds l.units
-gathered ((Some name.Workers, text) ∷ us) (item.Workers count ∷ items) h =
-    let l = gathered us items h.1 in all_five l.meshes l.grids (h.0, l.workers) l.builds l.units
-gathered ((Some name.Build, text) ∷ us) (item.Build named ∷ items) h =
-    let l = gathered us items h.1 in all_five l.meshes l.grids l.workers (h.0, l.builds) l.units
-gathered ((Some name.Unit, text) ∷ us) (item.Unit steps ∷ items) h =
-    let l = gathered us items h.1 in all_five l.meshes l.grids l.workers l.builds (h.0, l.units)
-gathered [] (i ∷ items) h = absurd h
-gathered (u ∷ us) [] h = absurd h
-gathered (u ∷ us) (i ∷ items) h = absurd h.0
+pub gathered : (uses : List Use) (items : List Item) → AreRead uses items → IsGathered uses items
+gathered [] [] fit = record { meshes = tt; grids = tt; workers = tt; builds = tt; units = tt }
+gathered ((None, text) ∷ uses) (item.Mesh place ∷ items) fit =
+    let later = gathered uses items fit.1 in
+    all_five (fit.0, later.meshes) later.grids later.workers later.builds later.units
+gathered ((Some name.Grid, text) ∷ uses) (item.Grid squares ∷ items) fit =
+    let later = gathered uses items fit.1 in
+    all_five later.meshes (fit.0, later.grids) later.workers later.builds later.units
+gathered ((Some name.Workers, text) ∷ uses) (item.Workers count ∷ items) fit =
+    let later = gathered uses items fit.1 in
+    all_five later.meshes later.grids (fit.0, later.workers) later.builds later.units
+gathered ((Some name.Build, text) ∷ uses) (item.Build named ∷ items) fit =
+    let later = gathered uses items fit.1 in
+    all_five later.meshes later.grids later.workers (fit.0, later.builds) later.units
+gathered ((Some name.Unit, text) ∷ uses) (item.Unit steps ∷ items) fit =
+    let later = gathered uses items fit.1 in
+    all_five later.meshes later.grids later.workers later.builds (fit.0, later.units)
+gathered [] (first ∷ items) fit = absurd fit
+gathered (one ∷ uses) [] fit = absurd fit
+gathered (one ∷ uses) (first ∷ items) fit = absurd fit.0

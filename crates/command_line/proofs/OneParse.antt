@@ -1,48 +1,38 @@
 -- A parse by the one command takes the words just where something is found, and finds just that.
-use Rattle.std.proofs.Common.{◌≡◌, ◌∙◌, ap, ◌&&◌, Bool, true, false, if◌then◌else◌, List, [], ◌∷◌, Option, None, Some, is_some, refl, sym, codes}
+use Rattle.std.proofs.Common.{◌≡◌, ◌∙◌, ap, ◌&&◌, Bool, true, false, if◌then◌else◌, List, [], Option, None, Some, is_some, refl, sym, codes}
 use Rattle.clap.specs.Walk.{Held, Row, Text, finished, has_row, idle, nothing_held, settled, walk}
 use Rattle.clap.specs.Takes.{takes, settle_passes, walk_passes}
-use Rattle.clap.specs.Kinds.{Kinds, or_else}
+use Rattle.clap.specs.Kinds.{or_else}
 use Rattle.clap.specs.Faults.{fault_of, settle_fault, walk_fault}
 use Rattle.clap.specs.Simple.{built, matches_of}
 use Rattle.clap.proofs.TakesLemmas.{leaf_takes}
 use Rattle.clap.proofs.FaultLemmas.{leaf_fault}
 use Rattle.command_line.specs.Command.{one_command}
 use Rattle.command_line.specs.Uses.{found, has_dashes}
+use Rattle.command_line.proofs.Options.{both_hold}
 use Rattle.command_line.proofs.OneCommand.{rules_built}
 use Rattle.command_line.proofs.FoundRows.{clear}
-use Rattle.command_line.proofs.Turns.{standing, top}
+use Rattle.command_line.proofs.FaultLists.{none_before}
+use Rattle.command_line.proofs.Standing.{standing, top}
 use Rattle.command_line.proofs.OneWalk.{Verdict}
 use Rattle.command_line.proofs.OneRun.{run_is}
 
 -- no argument has a default
 no_defaults : (held : Held) → finished rules_built held ≡ (settled rules_built held).rows
 no_defaults held =
-    let rs = (settled rules_built held).rows in
+    let found_rows = (settled rules_built held).rows in
     rw (
-      same rs (has_row (codes "mesh") rs),
-      same rs (has_row (codes "grid") rs),
-      same rs (has_row (codes "workers") rs),
-      same rs (has_row (codes "build") rs),
-      same rs (has_row (codes "unit") rs),
+      same found_rows (has_row (codes "mesh") found_rows),
+      same found_rows (has_row (codes "grid") found_rows),
+      same found_rows (has_row (codes "workers") found_rows),
+      same found_rows (has_row (codes "build") found_rows),
+      same found_rows (has_row (codes "unit") found_rows),
     )
     refl
   where
-    same : (rs : List Row) (b : Bool) → (if b then rs else rs) ≡ rs
-    same rs true = refl
-    same rs false = refl
-
--- where a choice by two tests is there, both hold
-both_hold : (a b : Bool) (x : List Row) (o : Option (List Row)) → (if a && b then Some x else None) ≡ o
-    → is_some o ≡ true → (a ≡ true) × (b ≡ true) × (o ≡ Some x)
-both_hold true true x o e is = (refl, refl, sym e)
-both_hold _ _ x (Some rs) e is = absurd cc
-both_hold _ _ x None e is = absurd cc
-
--- of two lists of faults that make an empty one, both are
-none_before : (first later : Kinds) → or_else first later ≡ [] → (first ≡ []) × (later ≡ [])
-none_before [] later e = (refl, e)
-none_before (k ∷ ks) later e = absurd cc
+    same : (found_rows : List Row) (is_there : Bool) → (if is_there then found_rows else found_rows) ≡ found_rows
+    same found_rows true = refl
+    same found_rows false = refl
 
 module _ (words : List Text) (undashed : has_dashes words ≡ false) where
   -- what clap holds behind the last word
@@ -52,7 +42,7 @@ module _ (words : List Text) (undashed : has_dashes words ≡ false) where
   -- where something is found, all words and what is pending pass
   passes : is_some (found words) ≡ true → (walk_passes top [] (standing idle [] None 1) words ≡ true)
       × (settle_passes rules_built false the_end ≡ true) × (found words ≡ Some (settled rules_built the_end).rows)
-  passes is = both_hold _ _ _ _ (ap (λ (v : Verdict). v.0) (run_is words undashed)) is
+  passes is = both_hold _ _ _ _ (ap (λ (verdict : Verdict). verdict.0) (run_is words undashed)) is
 
   -- so the words are taken
   takes_is : is_some (found words) ≡ true → takes one_command words ≡ true
@@ -73,13 +63,13 @@ module _ (words : List Text) (undashed : has_dashes words ≡ false) where
       let first = none_before of_walk _ level in
       let last = none_before of_end _ first.1 in
       let clean : (clear of_walk && clear of_end) ≡ true =
-      ap (λ ks. clear ks && clear of_end) first.0 ∙ ap clear last.0 in
-      sym (ap (λ (v : Verdict). v.1) (run_is words undashed)) ∙ clean
+      ap (λ faults. clear faults && clear of_end) first.0 ∙ ap clear last.0 in
+      sym (ap (λ (verdict : Verdict). verdict.1) (run_is words undashed)) ∙ clean
 
   -- words that are not taken have none
   pub unfound : (takes one_command words ≡ true → ⊥) → found words ≡ None
   unfound refused = go (found words) refl
     where
-      go : (o : Option (List Row)) → found words ≡ o → o ≡ None
-      go None e = refl
-      go (Some rs) e = absurd (refused (takes_is (ap is_some e)))
+      go : (answer : Option (List Row)) → found words ≡ answer → answer ≡ None
+      go None known = refl
+      go (Some found_rows) known = absurd (refused (takes_is (ap is_some known)))
