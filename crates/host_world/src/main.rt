@@ -12,7 +12,7 @@ use query_script::{Ask, Reply};
 use std::alloc::Global;
 use std::io;
 use std::thread::Threads;
-use world_engine::{Build, World};
+use world_index::{Build, World};
 
 /// A point, in grid steps.
 fn at(x: i32, y: i32, z: i32) -> Point {

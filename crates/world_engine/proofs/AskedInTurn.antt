@@ -2,7 +2,7 @@
 use Rattle.std.proofs.Common.{◌≡◌, ◌<◌, ◌+◌, ℕ, suc, List, [], ◌∷◌, ◌++◌, length, take, get_or, refl, ap, ◌∙◌}
 use Rattle.std.proofs.lemmas.List.{take_more}
 use Rattle.query_script.specs.declared.asks.Ask.{Ask}
-use Rattle.world_engine.specs.Worlds.{WorldState, reply_to, state_after}
+use Rattle.world_index.specs.Worlds.{WorldState, reply_to, state_after}
 use Rattle.world_engine.specs.Reports.{replies_to, world_after}
 
 -- the world after asks and more asks

@@ -13,7 +13,7 @@ use Rattle.world_engine.specs.declared.status.Status.{Status}
 use Rattle.world_engine.specs.declared.status.Status.TheVariants.{LinesRefused}
 use Rattle.world_engine.specs.declared.desk.Desk.{Desk}
 use Rattle.world_engine.specs.Desks.{desk_text, desk_after}
-use Rattle.world_engine.specs.Worlds.{WorldState, reply_of}
+use Rattle.world_index.specs.Worlds.{WorldState, reply_of}
 use Rattle.query_script.specs.Asks.{ask_of}
 use Rattle.query_script.specs.Replies.{reply_text, is_refused}
 use Rattle.world_engine.specs.Outputs.{replies_of, texts_from, script_output, whole_output, cut_output, status_of, says}

@@ -19,7 +19,7 @@ use Rattle.query_script.specs.declared.asks.Ask.TheVariants.{Overlap, Work, Rebu
 use Rattle.query_script.specs.declared.replies.Reply.TheVariants.{StatIs}
 use Rattle.octree_cells.specs.Cells.{prefix_of, prefix_at}
 use Rattle.octree_cells.specs.CellsOf.{keys_with, last_with, is_cell_at, cell_at, cells_from, cells_of, cells_to, cell_count_of}
-use Rattle.world_engine.specs.Worlds.{WorldState, world_of}
+use Rattle.world_index.specs.Worlds.{WorldState, world_of}
 use Rattle.world_engine.specs.Workload.{over_place, query_box, move_ask, move_asks}
 use Rattle.world_engine.specs.Sums.{sums_of}
 use Rattle.world_engine.specs.Reports.{replies_to, world_after}

@@ -21,7 +21,7 @@ use Rattle.world_engine.specs.declared.limits.TheConstants.{SCRIPT_MOST}
 use Rattle.world_engine.specs.declared.status.Status.{Status}
 use Rattle.world_engine.specs.declared.status.Status.TheVariants.{Usage, MeshRefused, ReadFault, WriteFault, Memory}
 use Rattle.world_engine.specs.Words.{Opening, opening, opening_of, grid_of}
-use Rattle.world_engine.specs.Worlds.{WorldState}
+use Rattle.world_index.specs.Worlds.{WorldState}
 use Rattle.world_engine.specs.Outputs.{Output, says, script_output, mesh_output, file_output, opening_output, words_output, output_of}
 use Rattle.world_engine.specs.Runs.{Fulfils, IsWhole, Asked, asked, IsFaulty, MeshIs, IsRefusedFile, IsRefusedMesh, world_in, world_of_file, world_of_opening, replies_to_ended, IsAnswered}
 use Rattle.world_engine.specs.StageEnds.{Faults, Ends, EndsFile}

@@ -3,7 +3,7 @@ use Rattle.std.proofs.Common.{◌≡◌, ℕ, ◌*◌, List, [], ◌∷◌, ◌+
 use Rattle.obj_text.proofs.HeightFields.{length-rows}
 use Rattle.query_script.specs.declared.asks.Ask.{Ask}
 use Rattle.world_engine.specs.declared.workload.TheConstants.{QUERIES}
-use Rattle.world_engine.specs.Worlds.{WorldState}
+use Rattle.world_index.specs.Worlds.{WorldState}
 use Rattle.world_engine.specs.Workload.{query_asks, pass_asks}
 use Rattle.world_engine.specs.Sums.{sums_of, sums_text}
 use Rattle.world_engine.specs.Reports.{Stage, replies_to, world_after, text_of, pass_stage, silent_stage}

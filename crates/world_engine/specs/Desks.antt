@@ -3,7 +3,7 @@ use Rattle.std.specs.Prelude.{ℕ, List, ◌||◌}
 use Rattle.query_script.specs.Asks.{ask_of}
 use Rattle.query_script.specs.Replies.{reply_text, is_refused}
 use Rattle.world_engine.specs.declared.desk.Desk.{Desk}
-use Rattle.world_engine.specs.Worlds.{reply_of, after}
+use Rattle.world_index.specs.Worlds.{reply_of, after}
 
 -- the text of the reply to the line of this number
 abbrev pub desk_text : Desk → ℕ → List ℕ → List ℕ

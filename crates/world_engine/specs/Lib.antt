@@ -1,14 +1,7 @@
 pub mod Statuses
 pub mod Words
-pub mod Worlds
 pub mod Refusals
 pub mod Outputs
-pub mod Fans
-pub mod Live
-pub mod Marks
-pub mod WaysUp
-pub mod Kept
-pub mod Grouping
 pub mod Runs
 pub mod StageEnds
 pub mod Desks

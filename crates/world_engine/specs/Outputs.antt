@@ -15,7 +15,7 @@ use Rattle.query_script.specs.Asks.{ask_of}
 use Rattle.query_script.specs.Replies.{reply_text, is_refused}
 use Rattle.world_engine.specs.Words.{Opening, opening_of, grid_of}
 use Rattle.world_engine.specs.Reports.{report_of}
-use Rattle.world_engine.specs.Worlds.{WorldState, world_of, reply_of, after}
+use Rattle.world_index.specs.Worlds.{WorldState, world_of, reply_of, after}
 use Rattle.world_engine.specs.Refusals.{refusal_text}
 
 -- what is written, and the status

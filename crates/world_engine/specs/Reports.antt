@@ -6,7 +6,7 @@ use Rattle.query_script.specs.declared.asks.Ask.{Ask}
 use Rattle.query_script.specs.declared.asks.Ask.TheVariants.{Rebuild, Stat}
 use Rattle.query_script.specs.declared.replies.Reply.{Reply}
 use Rattle.query_script.specs.Replies.{reply_text}
-use Rattle.world_engine.specs.Worlds.{WorldState, world_of, reply_to, state_after}
+use Rattle.world_index.specs.Worlds.{WorldState, world_of, reply_to, state_after}
 use Rattle.world_engine.specs.Workload.{pass_asks, move_asks}
 use Rattle.world_engine.specs.Sums.{sums_of, sums_text}
 

@@ -11,7 +11,7 @@ use Rattle.obj_text.specs.declared.limits.TheConstants.{MOST_BYTES}
 use Rattle.world_engine.specs.declared.status.Status.{Status}
 use Rattle.world_engine.specs.declared.status.Status.TheVariants.{Done, Usage, MeshRefused, ReadFault, WriteFault, Memory, LinesRefused}
 use Rattle.world_engine.specs.Words.{Opening}
-use Rattle.world_engine.specs.Worlds.{WorldState, world_of}
+use Rattle.world_index.specs.Worlds.{WorldState, world_of}
 use Rattle.world_engine.specs.Outputs.{Output, replies_of, texts_from}
 
 -- the statuses that say that all was written

@@ -9,7 +9,7 @@ use Rattle.obj_text.specs.declared.height_field.TheConstants.{FIELD_SPACING, FIE
 use Rattle.query_script.specs.declared.asks.Ask.{Ask}
 use Rattle.query_script.specs.declared.asks.Ask.TheVariants.{Overlap, Seg, Move, Work}
 use Rattle.world_engine.specs.declared.workload.TheConstants.{QUERIES, SEGMENT_TOP, SEGMENT_FOOT, BOX_REACH, BOX_TOP, MOVE_TOP, MOVE_STEP}
-use Rattle.world_engine.specs.Worlds.{point_at}
+use Rattle.world_index.specs.Worlds.{point_at}
 
 -- ---- one pass
 

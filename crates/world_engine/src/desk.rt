@@ -1,11 +1,11 @@
 //! Who answers a run's script: the world, with what the run has to remember between lines.
 
-use crate::world::World;
 use outside::{Gate, Memory};
 use query_script::{Reply, is_refused, read_line, reply_text};
 use std::alloc::Global;
 use std::thread::Threads;
 use streams::Answerer;
+use world_index::World;
 
 /// A world that is asked by a script.
 #[derive(Drop)]

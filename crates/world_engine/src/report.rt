@@ -9,13 +9,13 @@ ghost use Rattle.world_engine.specs.Reports.{replies_to, world_after, stat_stage
 
 use crate::passes::{MOST_REPLIES, sums_of, sums_text};
 use crate::workload::{move_asks, pass_asks};
-use crate::world::World;
 use command_line::{Build, MOST_WORKERS};
 use obj_text::{LEAST_GRID, MOST_GRID, grid_mesh};
 use outside::{Gate, Memory};
 use query_script::{Ask, Reply, reply_text};
 use std::alloc::Global;
 use std::thread::Threads;
+use world_index::World;
 
 /// The replies to asks, each in the world that those before it left.
 fn replies_to<R: Threads + Sync, G: Gate>(

@@ -14,7 +14,6 @@ use crate::desk::Desk;
 use crate::limits::SCRIPT_MOST;
 use crate::refusals::refusal_text;
 use crate::status::Status;
-use crate::world::World;
 use command_line::{MOST_WORKERS, Plan};
 use fixed_box::UNIT_MAX;
 use obj_text::{MOST_BYTES, Mesh, MeshFault, Why, read_mesh_by_threads};
@@ -22,6 +21,7 @@ use outside::{Gate, Memory, Sink, Source};
 use std::alloc::Global;
 use std::thread::Threads;
 use streams::{Ended, Stop, answer_lines, write_all};
+use world_index::World;
 
 /// Writes a text, and answers the status, or that the sink failed.
 pub fn say<K: Sink>(out: &mut K, text: &[u8], status: Status) -> Status

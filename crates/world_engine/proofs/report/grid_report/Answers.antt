@@ -2,7 +2,7 @@ use Rattle.std.proofs.Common.{[], ◌∷◌, length, arith, ap, refl, ◌∙◌}
 use Rattle.obj_text.specs.Meshes.{MeshLists}
 use Rattle.obj_text.specs.HeightFields.{field_mesh}
 use Rattle.query_script.specs.declared.asks.Ask.TheVariants.{Rebuild}
-use Rattle.world_engine.specs.Worlds.{world_of}
+use Rattle.world_index.specs.Worlds.{world_of}
 use Rattle.world_engine.specs.Workload.{move_asks}
 use Rattle.world_engine.specs.Reports.{stat_stage, pass_stage, silent_stage, report_of}
 use Rattle.world_engine.proofs.Telling.{tells_none, tells_more, pass_more, silent_more, length-pass_asks}

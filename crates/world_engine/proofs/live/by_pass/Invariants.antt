@@ -1,6 +1,0 @@
-use Rattle.refit.specs.Listing.{ListsBut}
-use Rattle.world_engine.specs.Live.{StandsStill}
-use Rattle.world_engine.proofs.live.by_pass.Given as goal
-
-abbrev pub invariant-loop-position : goal.invariant-loop-position
-invariant-loop-position l = ListsBut (StandsStill l.faces l.keys l.marks.moved) l.position l.live.items

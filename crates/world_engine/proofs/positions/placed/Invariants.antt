@@ -1,5 +1,0 @@
-use Rattle.world_engine.specs.Live.{ArePositionsTo}
-use Rattle.world_engine.proofs.positions.placed.Given as goal
-
-abbrev pub invariant-loop-position : goal.invariant-loop-position
-invariant-loop-position l = ArePositionsTo l.positions.items l.keys l.position

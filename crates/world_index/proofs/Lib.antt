@@ -1,0 +1,10 @@
+pub mod WorldBoxes
+pub mod FanLaws
+pub mod Marking
+pub mod MendedBoxes
+pub mod LivePositions
+pub mod Indexes
+pub mod Standing
+pub mod MovedVertices
+pub mod GroupCounts
+pub mod NodeCounts

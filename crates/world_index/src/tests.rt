@@ -1,0 +1,4 @@
+//! Worlds that are asked without a script.
+
+mod asking;
+mod moving;
