@@ -218,8 +218,7 @@ same_tree t keys nodes boxes k n h = subst (λ ks. IsFitted (record { keys = ks;
     (subst (λ ns. IsFitted (record { keys = keys; nodes = ns }) boxes) (sym n) h)
 
 -- what is written when all rows are is the table, and fitted
-pub all_out : (g : Given) → IsWhole (setting_of g) → (slots : List SlotPacket) (filled : List Bool) (places t : ℕ)
-    (nodes : List Node) →
-    IsWritingOut g slots filled places t nodes → length g.keys - 1 ≤ t → IsFull g.keys g.boxes nodes
-all_out g whole slots filled places t nodes w le =
+pub all_out : (g : Given) → IsWhole (setting_of g) → (slots : List SlotPacket) (filled : List Bool) (places : ℕ)
+    (here : SlotPacket) (t : ℕ) (nodes : List Node) → IsWritingOut g slots filled places here t nodes → length g.keys - 1 ≤ t → IsFull g.keys g.boxes nodes
+all_out g whole slots filled places here t nodes w le =
     all_written g.keys whole.lawful g.boxes nodes t whole.boxes_count w.count le w.written

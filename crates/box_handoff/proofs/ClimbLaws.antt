@@ -58,6 +58,7 @@ carried_up g laws l packet u is made up =
     let child = laws.frame_laws.up_child l.split u is.node up in record {
       node = node;
       live = live_up (frame g) laws.frame_laws u.split u.side node (ap (live_below (frame g)) child ∙ is.live);
+      own = ap (live_below (frame g)) child ∙ is.live;
       packet = made ∙ sym (ap (packet_below (frame g)) child);
     }
 

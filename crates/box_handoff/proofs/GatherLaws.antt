@@ -1,6 +1,6 @@
 -- Seats are gathered, and a closed table is at rest.
-use Rattle.std.proofs.Common.{⊎_elim, inl, inr, get_or, ◌≡◌, ℕ, ◌+◌, ◌<◌, List, [], ◌∷◌, ◌++◌, length, sym, refl, ap, ◌∙◌, subst, arith}
-use Rattle.std.specs.Prelude.{All}
+use Rattle.std.proofs.Common.{⊎_elim, inl, inr, Bool, get_or, ◌≡◌, ℕ, ◌+◌, ◌<◌, List, [], ◌∷◌, ◌++◌, length, sym, refl, ap, ◌∙◌, subst, arith}
+use Rattle.std.specs.Prelude.{All, ◌&&◌}
 use Rattle.std.proofs.Math.ListN.{length-append, get_or-append}
 use Rattle.std.proofs.Math.Seq.{get_or-append_seam}
 use mathlib.Core.Option.{some}
@@ -8,6 +8,8 @@ use Rattle.std.proofs.lemmas.Bool.{cases_lt}
 use Rattle.atomic_table.specs.Seated.{TableId}
 use Rattle.atomic_table.specs.Table.{Final, Seen}
 use Rattle.arrival_core.specs.declared.packets.Phase.TheVariants.{Ended}
+use Rattle.arrival_core.specs.declared.packets.Side.{Side}
+use Rattle.arrival_core.specs.declared.packets.Place.TheVariants.{Holds}
 use Rattle.arrival_core.specs.Frames.{packet_at}
 use Rattle.arrival_core.specs.States.{Worker}
 use Rattle.box_handoff.specs.declared.slots.SlotPacket.{SlotPacket}
@@ -18,19 +20,21 @@ use Rattle.box_handoff.specs.declared.seats.HandSeat.{HandSeat}
 use Rattle.box_handoff.specs.Entries.{frame, numbers, In}
 use Rattle.box_handoff.specs.Slots.{packed}
 use Rattle.box_handoff.specs.Cuts.{both_views}
-use Rattle.box_handoff.specs.Rule.{Rule, slot}
+use Rattle.box_handoff.specs.Rule.{Rule, slot, bit_on, side_no, node_word}
+use Rattle.box_handoff.specs.LiveNodes.{Shown, slotted}
 use Rattle.box_handoff.specs.declared.handoffs.Handoff.{Handoff}
 use Rattle.box_handoff.specs.Seats.{given_by, id_of, entry_of, AreAll}
 use Rattle.box_handoff.specs.Gathering.{HasEnded, Covers, AllEnded, AreKept}
 use Rattle.box_handoff.proofs.FrameOf.{completes}
 use Rattle.box_handoff.proofs.Rosters.{in_left, in_right, in_either}
 use Rattle.box_handoff.proofs.Roster.{in_one}
-use Rattle.box_handoff.proofs.Standing.{is_full, workers_are}
+use Rattle.box_handoff.proofs.Standing.{is_full, workers_are, holds_opened}
 
 -- what covers a number in one of two views covers it in both
 pub covers_left : (k : ℕ) (v w : View) → Covers k v → Covers k (both_views v w)
 covers_left k v w c = (c.0, in_left v.entries w.entries c.0 c.1, c.2, c.3)
 
+-- and so does what covers it in the other
 pub covers_right : (k : ℕ) (v w : View) → Covers k w → Covers k (both_views v w)
 covers_right k v w c = (c.0, in_right v.entries w.entries c.0 c.1, c.2, c.3)
 
@@ -114,16 +118,35 @@ all_covered h old new x all e before now front kept_all last k lt =
           (kept_all x.number last)
     ])
 
--- where all have ended, each slot keeps its child's packet
-pub kept : (g : Given) → (id : ℕ) (v : View) (words : List ℕ) (slots : List SlotPacket) →
-    Final (Seen (Rule g) id v) words slots → ((k : ℕ) → k < g.seats → Covers k v) → AreKept g slots
-kept g id v words slots fin all t d seen =
+-- where all have ended, each place holds its child's packet
+stood_there : (g : Given) → (id : ℕ) (v : View) (words : List ℕ) (slots : List SlotPacket)
+    (fin : Final (Seen (Rule g) id v) words slots) → ((k : ℕ) → k < g.seats → Covers k v) → (t : ℕ) (d : Side) →
+    t < (frame g).nodes → fin.1.0.machine.place t d ≡ Holds (packet_at (frame g) t d)
+stood_there g id v words slots fin all t d lt =
     let h : Rule g fin.0 = fin.1.0 in
     let ended : (k : ℕ) → k < (frame g).workers → (h.machine.worker k).phase ≡ Ended = λ k small.
     let c = all k (subst (λ (n : ℕ). k < n) (workers_are g) small) in
     ap (λ (n : ℕ). (h.machine.worker n).phase) (sym c.2)
     ∙ ap (λ (w : Worker). w.phase) (h.rostered.worker id v fin.1.1 c.0 c.1) ∙ c.3 in
-    let was = h.shows.places t d seen in
-    let stood = (completes g h.given h.machine h.lawful ended).places t d seen.0 in
+    (completes g h.given h.machine h.lawful ended).places t d lt
+
+-- so each slot that is a child's keeps it
+pub kept : (g : Given) → (id : ℕ) (v : View) (words : List ℕ) (slots : List SlotPacket) →
+    Final (Seen (Rule g) id v) words slots → ((k : ℕ) → k < g.seats → Covers k v) → AreKept g slots
+kept g id v words slots fin all t d seen on =
+    let h : Rule g fin.0 = fin.1.0 in
+    let was = h.shows.places t d seen on in
+    let stood = stood_there g id v words slots fin all t d seen.0 in
     fin.4 (slot ((numbers g).number t) d) (packed d (packet_at (frame g) t d))
     (was.1 ∙ ap some (is_full d was.0 (h.machine.place t d) (packet_at (frame g) t d) was.2 stood))
+
+-- and a bit tells which children have one
+pub told_by : (g : Given) → (id : ℕ) (v : View) (words : List ℕ) (slots : List SlotPacket) →
+    Final (Seen (Rule g) id v) words slots → ((k : ℕ) → k < g.seats → Covers k v) → (t : ℕ) (d : Side) →
+    Shown (frame g) t → bit_on (node_word (frame g) (numbers g) words t) (7 + side_no d) ≡ slotted (frame g) t d
+told_by g id v words slots fin all t d seen =
+    let h : Rule g fin.0 = fin.1.0 in
+    let opened = holds_opened (frame g) h.machine t d (packet_at (frame g) t d) seen.0 h.lawful
+    (stood_there g id v words slots fin all t d seen.0) in
+    ap (λ (l : List ℕ). bit_on (node_word (frame g) (numbers g) l t) (7 + side_no d)) (sym fin.2)
+    ∙ sym (h.shows.handed t d seen) ∙ ap (λ (b : Bool). b && slotted (frame g) t d) opened

@@ -1,6 +1,6 @@
 -- A walk down to the live leaves meets the live nodes, and lays them down in order.
 use Rattle.std.proofs.Common.{◌≡◌, ℕ, zero, suc, ◌+◌, ◌-◌, ◌<◌, ◌≤◌, inl, inr, Bool, true, false, List, [], ◌∷◌, ◌++◌, length, sym, refl, ap, ◌∙◌, subst, arith, append_assoc, append-nil}
-use Rattle.std.specs.Prelude.{◌||◌, not, Result, Ok, Err, IfOk}
+use Rattle.std.specs.Prelude.{Result, Ok, Err, IfOk}
 use Rattle.std.proofs.lemmas.Bool.{cases_order, cases_Bool}
 use Rattle.outside.specs.declared.errors.Memory.{Memory}
 use Rattle.morton_key.specs.declared.keys.Key.{Key}
@@ -15,26 +15,19 @@ use Rattle.radix_tree.proofs.SplitLaws.{split_laws}
 use Rattle.radix_tree.proofs.NumberLaws.{proper}
 use Rattle.radix_tree.proofs.NodeLaws.{node_within, root_node}
 use Rattle.radix_tree.proofs.DescentLaws.{row_range}
-use Rattle.arrival_core.specs.declared.packets.Packet.{Packet}
-use Rattle.arrival_core.specs.declared.packets.Side.{Side}
 use Rattle.arrival_core.specs.declared.packets.Side.TheVariants.{Left, Right}
-use Rattle.arrival_core.specs.declared.packets.Place.TheVariants.{Holds}
-use Rattle.arrival_core.specs.declared.forks.Branch.{Branch}
-use Rattle.arrival_core.specs.declared.forks.Fork.{Fork}
-use Rattle.arrival_core.specs.Frames.{Frame, packet_at, live_at}
+use Rattle.arrival_core.specs.Frames.{Frame, live_at, live_below}
 use Rattle.arrival_core.specs.Settings.{row_of, live_in, frame_of}
-use Rattle.arrival_core.specs.Terrains.{IsTerrain, IsStartFork, table_packet, start_branch}
+use Rattle.arrival_core.specs.Terrains.{IsTerrain}
 use Rattle.arrival_core.proofs.Descending.{read}
 use Rattle.arrival_core.proofs.LiveRanges.{live_wider}
 use Rattle.arrival_core.proofs.SplitNames.{row_of_is}
-use Rattle.arrival_core.proofs.StartLaws.{start_fork_is}
-use Rattle.box_handoff.specs.declared.slots.SlotPacket.{SlotPacket}
+use Rattle.arrival_core.proofs.SplitRanges.{first_is, last_is, left_is, right_is, left_range, right_range, live_of_range}
 use Rattle.box_handoff.specs.declared.laying.Moves.{Moves}
 use Rattle.box_handoff.specs.declared.laying.Laid.{Laid}
 use Rattle.box_handoff.specs.LiveNodes.{live_splits, splits_of}
-use Rattle.box_handoff.specs.Slots.{packed}
-use Rattle.box_handoff.specs.Starting.{start_word, start_slot}
-use Rattle.box_handoff.specs.Laying.{AreMoves, Added, over, terrain_of, words_of, slots_of}
+use Rattle.box_handoff.specs.Starting.{start_word}
+use Rattle.box_handoff.specs.Laying.{AreMoves, Added, over, setting_over, terrain_of, words_of}
 use Rattle.box_handoff.proofs.SplitLists.{splits_on, splits_off, splits_none}
 
 -- the live splits of a range, parted at a live one
@@ -59,6 +52,7 @@ parted f a (suc m) k h =
           ∙ ap (λ (l : List ℕ). l ++ ((a + suc m) ∷ live_splits f (suc (a + suc m)) k)) (sym (splits_off f a m off))
     ]
 
+-- the same, by the first and the last position
 parted_at : (f : Frame) (a s b : ℕ) → a ≤ s → s < b → f.live_node s ≡ true →
     live_splits f a (b - a) ≡ live_splits f a (s - a) ++ (s ∷ live_splits f (s + 1) (b - (s + 1)))
 parted_at f a s b low high h =
@@ -69,26 +63,19 @@ parted_at f a s b low high h =
     ∙ ap (λ (n : ℕ). live_splits f a (s - a) ++ (n ∷ live_splits f (suc n) (b - (s + 1)))) y
     ∙ ap (λ (n : ℕ). live_splits f a (s - a) ++ (s ∷ live_splits f n (b - (s + 1)))) z
 
--- words and slots of two lists in a row
+-- the words of two lists in a row
 words_append : (f : Frame) (xs ys : List ℕ) → words_of f (xs ++ ys) ≡ words_of f xs ++ words_of f ys
 unfolding words_of
 words_append f [] ys = refl
 words_append f (x ∷ xs) ys = ap (λ (l : List ℕ). start_word (live_at f x Left) (live_at f x Right) ∷ l)
     (words_append f xs ys)
 
-slots_append : (f : Frame) (xs ys : List ℕ) → slots_of f (xs ++ ys) ≡ slots_of f xs ++ slots_of f ys
-unfolding slots_of
-slots_append f [] ys = refl
-slots_append f (x ∷ xs) ys = ap (λ (l : List SlotPacket). start_slot Left (live_at f x Left) (packet_at f x Left)
-    ∷ start_slot Right (live_at f x Right) (packet_at f x Right) ∷ l) (slots_append f xs ys)
-
 -- nothing was laid down
 added_none : (f : Frame) (l : Laid) (splits : List ℕ) → splits ≡ [] → Added f l l splits
-unfolding words_of slots_of
+unfolding words_of
 added_none f l splits e = subst (Added f l l) (sym e) (record {
   spots = sym (append-nil l.spots.items);
   words = sym (append-nil l.words.items);
-  slots = sym (append-nil l.slots.items);
 })
 
 -- more was laid down behind it
@@ -98,26 +85,19 @@ added_more f a b c xs ys p q = record {
   words = q.words ∙ ap (λ (l : List ℕ). l ++ words_of f ys) p.words
       ∙ append_assoc a.words.items (words_of f xs) (words_of f ys)
       ∙ ap (λ (l : List ℕ). a.words.items ++ l) (sym (words_append f xs ys));
-  slots = q.slots ∙ ap (λ (l : List SlotPacket). l ++ slots_of f ys) p.slots
-      ∙ append_assoc a.slots.items (slots_of f xs) (slots_of f ys)
-      ∙ ap (λ (l : List SlotPacket). a.slots.items ++ l) (sym (slots_append f xs ys));
 }
 
 -- one node was laid down
-pub added_one : {A : Type 0} (f : Frame) (a b : Laid) (s word : ℕ) (first second : SlotPacket) →
-    word ≡ start_word (live_at f s Left) (live_at f s Right) →
-    first ≡ start_slot Left (live_at f s Left) (packet_at f s Left) →
-    second ≡ start_slot Right (live_at f s Right) (packet_at f s Right) → (r : Result A Memory) →
+pub added_one : {A : Type 0} (f : Frame) (a b : Laid) (s word : ℕ) →
+    word ≡ start_word (live_at f s Left) (live_at f s Right) → (r : Result A Memory) →
     IfOk r (λ x. b.spots.items ≡ a.spots.items ++ s ∷ []) → IfOk r (λ x. b.words.items ≡ a.words.items ++ word ∷ []) →
-    IfOk r (λ x. b.slots.items ≡ a.slots.items ++ first ∷ second ∷ []) → IfOk r (λ x. Added f a b (s ∷ []))
-unfolding words_of slots_of
-added_one f a b s word first second w l h (Ok x) p q r = record {
+    IfOk r (λ x. Added f a b (s ∷ []))
+unfolding words_of
+added_one f a b s word w (Ok x) p q = record {
   spots = p;
   words = q ∙ ap (λ (n : ℕ). a.words.items ++ n ∷ []) w;
-  slots = r ∙ ap (λ (k : SlotPacket). a.slots.items ++ k ∷ second ∷ []) l
-      ∙ ap (λ (k : SlotPacket). a.slots.items ++ start_slot Left (live_at f s Left) (packet_at f s Left) ∷ k ∷ []) h;
 }
-added_one f a b s word first second w l h (Err x) p q r = tt
+added_one f a b s word w (Err x) p q = tt
 
 -- nodes below, the node, nodes above
 around : {A : Type 0} (f : Frame) (a b c d : Laid) (first s last : ℕ) → first ≤ s → s < last → f.live_node s ≡ true →
@@ -130,25 +110,9 @@ around f a b c d first s last low high on p q (Ok x) r =
     (added_more f b c d (s ∷ []) (live_splits f (s + 1) (last - (s + 1))) q r))
 around f a b c d first s last low high on p q (Err x) r = tt
 
--- branches that start alike have slots that do
-slot_same : (d : Side) (l m : Bool) (p q : Packet) → ◌≡◌ {A = Branch} (start_branch l p) (start_branch m q) →
-    start_slot d l p ≡ start_slot d m q
-slot_same d true true p q e = refl
-slot_same d true false p q e = let z : not true ≡ not false = ap (λ (b : Branch). b.opened) e in cc
-slot_same d false true p q e = let z : not false ≡ not true = ap (λ (b : Branch). b.opened) e in cc
-slot_same d false false p q e =
-    let h : Holds p ≡ Holds q = ap (λ (b : Branch). b.place) e in
-    let same : p ≡ q = cc in ap (packed d) same
-
--- and are alike live
-live_same : (l m : Bool) (p q : Packet) → ◌≡◌ {A = Branch} (start_branch l p) (start_branch m q) → l ≡ m
-live_same true true p q e = refl
-live_same true false p q e = let z : not true ≡ not false = ap (λ (b : Branch). b.opened) e in cc
-live_same false true p q e = let z : not false ≡ not true = ap (λ (b : Branch). b.opened) e in cc
-live_same false false p q e = refl
-
 module _ (m : Moves) (ok : AreMoves m) where
-  terrain : IsTerrain (terrain_of m)
+  -- the task over the tree
+  pub terrain : IsTerrain (terrain_of m)
   terrain = record {
     table = ok.table;
     task = record {
@@ -164,7 +128,7 @@ module _ (m : Moves) (ok : AreMoves m) where
   }
 
   -- whether a node is live, by its range
-  live_row : (x a b : ℕ) → IsNode m.tree.now.keys x a b →
+  pub live_row : (x a b : ℕ) → IsNode m.tree.now.keys x a b →
       (over m).live_node (split m.tree.now.keys a b) ≡ live_in m.live.now a b
   unfolding frame_of
   live_row x a b d =
@@ -201,12 +165,15 @@ module _ (m : Moves) (ok : AreMoves m) where
 
   -- the node of a number, as it was read
   module _ (k : ℕ) (lt : k < length m.tree.now.nodes) (x : Node) (e : x ≡ node_at m.tree.now.nodes k) where
+    -- its range is not empty
     pub low : x.first ≤ x.split
     low = (read m.tree.now ok.table k lt x e).low
 
+    -- and goes on behind its split
     pub high : x.split < x.last
     high = (read m.tree.now ok.table k lt x e).high
 
+    -- among the keys
     pub within : x.last < length m.tree.now.keys
     within = (read m.tree.now ok.table k lt x e).within
 
@@ -225,6 +192,49 @@ module _ (m : Moves) (ok : AreMoves m) where
         (subst (λ (n : ℕ). live_in m.live.now x.first n ≡ false) r.1 off) in
         added_none (over m) l (live_splits (over m) a (b - a))
         (splits_none (over m) a (b - a) (λ t low high. dead b k a b t (omega arith) d still low (omega (arith, high))))
+
+    -- its split is a node's
+    split_low : x.split < length m.tree.now.keys - 1
+    split_low = omega (arith, high, within)
+
+    -- the row of its split is its own
+    row_first : (row_of m.tree.now.keys x.split).first ≡ x.first
+    row_first =
+        let y = read m.tree.now ok.table k lt x e in
+        subst (λ (n : ℕ). (row_of m.tree.now.keys n).first ≡ x.first) (sym y.split_is)
+        (ap (λ r. r.first) (row_of_is m.tree.now.keys ok.table.lawful y.node))
+
+    row_last : (row_of m.tree.now.keys x.split).last ≡ x.last
+    row_last =
+        let y = read m.tree.now ok.table k lt x e in
+        subst (λ (n : ℕ). (row_of m.tree.now.keys n).last ≡ x.last) (sym y.split_is)
+        (ap (λ r. r.last) (row_of_is m.tree.now.keys ok.table.lawful y.node))
+
+    -- so its left child is live where its range is
+    live_left : live_at (over m) x.split Left ≡ live_in m.live.now x.first x.split
+    unfolding live_at frame_of
+    live_left = ap (live_below (over m)) (left_is (setting_over m) ok.task x.split split_low)
+        ∙ live_of_range (setting_over m) ok.task _ x.split (left_range (setting_over m) ok.task x.split split_low)
+        ∙ ap (λ (n : ℕ). live_in m.live.now n x.split)
+        (sym (first_is (setting_over m) ok.task x.split split_low) ∙ row_first)
+
+    -- and its right one
+    live_right : live_at (over m) x.split Right ≡ live_in m.live.now (suc x.split) x.last
+    unfolding live_at frame_of
+    live_right = ap (live_below (over m)) (right_is (setting_over m) ok.task x.split split_low)
+        ∙ live_of_range (setting_over m) ok.task (suc x.split) _
+        (right_range (setting_over m) ok.task x.split split_low)
+        ∙ ap (live_in m.live.now (suc x.split))
+        (sym (last_is (setting_over m) ok.task x.split split_low) ∙ row_last)
+
+    -- that tells its word
+    pub word_is : (l r : Bool) → l ≡ live_in m.live.now x.first x.split → r ≡ live_in m.live.now (x.split + 1) x.last →
+        start_word l r ≡ start_word (live_at (over m) x.split Left) (live_at (over m) x.split Right)
+    word_is l r el er =
+        let next : x.split + 1 ≡ suc x.split = omega arith in
+        ap (λ (z : Bool). start_word z r) (el ∙ sym live_left)
+        ∙ ap (start_word (live_at (over m) x.split Left))
+        (er ∙ ap (λ (n : ℕ). live_in m.live.now n x.last) next ∙ sym live_right)
 
     -- with its children
     module _ (first second : Child)
@@ -256,35 +266,6 @@ module _ (m : Moves) (ok : AreMoves m) where
             subst (λ (n : ℕ). IfOk r (λ z. Added (over m) l d (live_splits (over m) n (q - n)))) is.0
             (subst (λ (n : ℕ). IfOk r (λ z. Added (over m) l d (live_splits (over m) x.first (n - x.first)))) is.1
             (around (over m) l b c d x.first x.split x.last y.low y.high live before here r after))
-
-        -- the node alone
-        module _ (ll lr : Bool) (el : ll ≡ live_in m.live.now x.first x.split)
-            (er : lr ≡ live_in m.live.now (x.split + 1) x.last) where
-          abbrev fork : Fork
-          fork = record {
-            left = start_branch ll (table_packet (terrain_of m) first);
-            right = start_branch lr (table_packet (terrain_of m) second);
-            returned = not (ll || lr);
-          }
-
-          starts : IsStartFork (over m) x.split fork
-          starts = subst (λ (n : ℕ). IsStartFork (over m) n fork) (sym (ap (λ (y : Node). y.split) e))
-              (start_fork_is (terrain_of m) m.seats ok.task.one_worker terrain ok.rest k lt x e first second of_first
-              of_second ll lr el er fork refl refl refl)
-
-          pub word_is : start_word ll lr ≡ start_word (live_at (over m) x.split Left) (live_at (over m) x.split Right)
-          word_is =
-              let a = live_same ll (live_at (over m) x.split Left) _ _ starts.left in
-              let b = live_same lr (live_at (over m) x.split Right) _ _ starts.right in
-              ap (λ (z : Bool). start_word z lr) a ∙ ap (start_word (live_at (over m) x.split Left)) b
-
-          pub first_is : start_slot Left ll (table_packet (terrain_of m) first)
-              ≡ start_slot Left (live_at (over m) x.split Left) (packet_at (over m) x.split Left)
-          first_is = slot_same Left ll (live_at (over m) x.split Left) _ _ starts.left
-
-          pub second_is : start_slot Right lr (table_packet (terrain_of m) second)
-              ≡ start_slot Right (live_at (over m) x.split Right) (packet_at (over m) x.split Right)
-          second_is = slot_same Right lr (live_at (over m) x.split Right) _ _ starts.right
 
   -- what was laid down from the root
   pub from_root : (a b : Laid) → ((p q : ℕ) → HasRange m.tree.now.keys (Inner 0) p q →

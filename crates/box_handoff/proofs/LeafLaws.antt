@@ -60,5 +60,6 @@ carried_leaf f laws p u packet in_ live a b = let node : u.split < f.nodes = sub
     (λ (x : Up). f.child x.split x.side ≡ leaf p) a (laws.leaf_child p in_) in record {
       node = node;
       live = live_up f laws u.split u.side node (ap (live_below f) child ∙ live);
+      own = ap (live_below f) child ∙ live;
       packet = b ∙ sym (ap (packet_below f) child);
     }

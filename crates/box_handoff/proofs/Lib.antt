@@ -7,7 +7,11 @@ pub mod WholeFrame
 pub mod EndLaws
 pub mod Roster
 pub mod Rosters
+pub mod Lending
 pub mod WordLaws
+pub mod HandLaws
+pub mod SlotLaws
+pub mod RestLaws
 pub mod Standing
 pub mod TakeLaws
 pub mod OpenLaws
@@ -18,6 +22,7 @@ pub mod Dids
 pub mod GrowLaws
 pub mod ClimbLaws
 pub mod LeafLaws
+pub mod HandedLaws
 pub mod BatchLaws
 pub mod Opening
 pub mod StartLaws

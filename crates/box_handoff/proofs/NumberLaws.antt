@@ -16,10 +16,12 @@ place_here : (x : ℕ) (xs : List ℕ) (t : ℕ) → x ≡ t → place_in (x ∷
 unfolding place_in
 place_here x xs t e = ap (λ (b : Bool). if b then 0 else suc (place_in xs t)) (eq-eqb x t e)
 
+-- it is not at the head
 place_else : (x : ℕ) (xs : List ℕ) (t : ℕ) → x ≢ t → place_in (x ∷ xs) t ≡ suc (place_in xs t)
 unfolding place_in
 place_else x xs t n = ap (λ (b : Bool). if b then 0 else suc (place_in xs t)) (ne_eqb x t n)
 
+-- what stands at the place of a number is that
 pub at_place : (xs : List ℕ) (t : ℕ) → place_in xs t < length xs → slice_index xs (place_in xs t) ≡ t
 at_place [] t h = absurd (omega arith)
 at_place (x ∷ xs) t h = ⊎_elim
@@ -27,10 +29,11 @@ at_place (x ∷ xs) t h = ⊎_elim
     (λ (n : x ≢ t). let p = place_else x xs t n in ap (λ (k : ℕ). slice_index (x ∷ xs) k) p
     ∙ at_place xs t (let z : place_in xs t < length xs = omega arith in z)) (cases_eq x t)
 
--- the place of what stands at a place of a list that rises
+-- the tail of a list that rises rises
 rising_tail : (x : ℕ) (xs : List ℕ) → AllPairs (λ p q. p < q) (x ∷ xs) → AllPairs (λ p q. p < q) xs
 rising_tail x xs rising i j d less lt = rising (suc i) (suc j) d (omega (arith, less)) (omega (arith, lt))
 
+-- the place of what stands at a place of a list that rises
 pub place_at : (xs : List ℕ) → AllPairs (λ p q. p < q) xs → (i : ℕ) → i < length xs →
     place_in xs (slice_index xs i) ≡ i
 place_at [] rising i h = absurd (omega arith)
@@ -57,19 +60,40 @@ partition_place xs t at rising there point = elim (cases_order at (place_in xs t
 ]
 
 module _ (f : Frame) where
+  -- a live node's split is listed
   have : (t : ℕ) → Shown f t → Has (splits_of f) t
   have t l = splits_have f 0 f.nodes t (omega arith) (let z = l.0 in omega arith) l.1
 
+  -- where it was found
   place : (t : ℕ) (l : Shown f t) → place_in (splits_of f) t ≡ (have t l).0
   place t l = ap (place_in (splits_of f)) (sym (have t l).2)
       ∙ place_at (splits_of f) (splits_rise f 0 f.nodes) (have t l).0 (have t l).1
 
+  -- of two live splits the greater has the greater number
+  listed_rise : (s t : ℕ) (hs : Has (splits_of f) s) (ht : Has (splits_of f) t) → s < t →
+      place_in (splits_of f) s ≡ hs.0 → place_in (splits_of f) t ≡ ht.0 →
+      place_in (splits_of f) s < place_in (splits_of f) t
+  listed_rise s t hs ht less es et = elim (cases_order hs.0 ht.0) [
+    | inl e ↦
+        let z : s ≡ t = sym hs.2 ∙ ap (λ (n : ℕ). slice_index (splits_of f) n) e ∙ ht.2 in
+        absurd (omega (arith, z, less))
+    | inr (inl low) ↦ omega (arith, es, et, low)
+    | inr (inr high) ↦
+        let z : slice_index (splits_of f) ht.0 < slice_index (splits_of f) hs.0
+        = splits_rise f 0 f.nodes ht.0 hs.0 0 high hs.1 in
+        let a = hs.2 in
+        let b = ht.2 in
+        absurd (omega (arith, z, a, b, less))
+  ]
+
+  -- each live node has its place in the list for a number
   listed_numbered : IsNumbered f (numbers_in f.nodes (Some (splits_of f)))
   unfolding numbers_in
   listed_numbered = record {
     within = λ t l. subst (λ (n : ℕ). n < length (splits_of f)) (sym (place t l)) (have t l).1;
     apart = λ s t ls lt e. sym (have s ls).2
         ∙ ap (λ (n : ℕ). slice_index (splits_of f) n) (sym (place s ls) ∙ e ∙ place t lt) ∙ (have t lt).2;
+    rising = λ s t ls lt less. listed_rise s t (have s ls) (have t lt) less (place s ls) (place t lt);
     each = λ i l. (
       slice_index (splits_of f) i,
       listed_shown f i l,
@@ -80,7 +104,7 @@ module _ (f : Frame) where
   -- each live node has a number of its own
   numbered_so : (o : Option (List ℕ)) → AreSpots f o → IsNumbered f (numbers_in f.nodes o)
   unfolding numbers_in
-  numbered_so None all = record { within = λ t l. l.0; apart = λ s t ls lt e. e; each = λ i l. (i, (l, all i l), refl) }
+  numbered_so None all = record { within = λ t l. l.0; apart = λ s t ls lt e. e; rising = λ s t ls lt less. less; each = λ i l. (i, (l, all i l), refl) }
   numbered_so (Some xs) is = subst (λ (l : List ℕ). IsNumbered f (numbers_in f.nodes (Some l))) (sym is) listed_numbered
 
   -- there are as many as live splits

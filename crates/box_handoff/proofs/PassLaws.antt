@@ -1,5 +1,6 @@
 -- What a passage of a node makes of a worker, and of the slot that is out with it.
-use Rattle.std.proofs.Common.{◌≡◌, ℕ, ◌+◌, List, [], ◌∷◌, sym, refl, ap, ◌∙◌, arith, Option, Some, None}
+use Rattle.std.proofs.Common.{◌≡◌, ℕ, ◌+◌, Bool, true, false, List, [], ◌∷◌, sym, refl, ap, ◌∙◌, arith, Option, Some, None}
+use Rattle.std.specs.Prelude.{not}
 use Rattle.arrival_core.specs.declared.packets.Packet.{Packet}
 use Rattle.arrival_core.specs.declared.packets.Tally.{Tally}
 use Rattle.arrival_core.specs.declared.packets.Side.{Side}
@@ -14,10 +15,15 @@ use Rattle.box_handoff.specs.declared.slots.SlotPacket.{SlotPacket}
 use Rattle.box_handoff.specs.declared.views.Given.{Given}
 use Rattle.box_handoff.specs.declared.views.Entry.{Entry}
 use Rattle.box_handoff.specs.Entries.{IsGiven, frame, worker_of}
-use Rattle.box_handoff.specs.Plays.{Mine, mine, IsSmall}
+use Rattle.box_handoff.specs.Plays.{Mine, mine, IsSmall, lent}
 use Rattle.box_handoff.specs.Slots.{packed, unpacked}
 use Rattle.box_handoff.specs.Climbs.{IsCarried, in_phase, came_first, finds_other, leaves_with, came_second, takes_up}
 use Rattle.box_handoff.proofs.PackLaws.{unpacked_packed}
+
+-- what is not so is not not so
+pub arrived_so : (b : Bool) → not b ≡ false → b ≡ true
+arrived_so true e = refl
+arrived_so false e = sym e
 
 -- what is small after a step was small before
 pub was_small : (l : Load) (s0 s1 : Mine) → worker_of (mine s1) ≡ in_phase (mine s0) (Opened l) →
@@ -106,12 +112,12 @@ out_alone xs ys j k q a e i =
     a ∙ ap (λ (z : List (ℕ × SlotPacket)). (k, q) ∷ z) e ∙ ap (λ (z : ℕ). (z, q) ∷ []) (sym i)
 
 -- it is still out once it has been read
-pub still_out : (d : Side) (theirs found : Packet) (k : ℕ) (s0 s1 s2 : Mine) →
-    s1.1 ≡ (k, packed d theirs) ∷ s0.1 → s0.1 ≡ [] → s2 ≡ s1 → found ≡ theirs →
-    s2.1 ≡ (k, packed d found) ∷ []
-still_out d theirs found k s0 s1 s2 out home same e =
-    ap (λ (m : Mine). m.1) same ∙ out_alone s1.1 s0.1 k k (packed d theirs) out home refl
-    ∙ ap (λ (p : Packet). (k, packed d p) ∷ []) (sym e)
+pub still_out : (b : Bool) (d : Side) (theirs found : Packet) (k : ℕ) (s0 s1 s2 : Mine) →
+    s1.1 ≡ lent b k (packed d theirs) s0.1 → s0.1 ≡ [] → s2 ≡ s1 → found ≡ theirs →
+    s2.1 ≡ lent b k (packed d found) []
+still_out b d theirs found k s0 s1 s2 out home same e =
+    ap (λ (m : Mine). m.1) same ∙ out ∙ ap (lent b k (packed d theirs)) home
+    ∙ ap (λ (p : Packet). lent b k (packed d p) []) (sym e)
 
 -- what stands in the slot that is out
 first_kept : SlotPacket → List (ℕ × SlotPacket) → SlotPacket

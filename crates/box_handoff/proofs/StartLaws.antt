@@ -1,69 +1,35 @@
 -- What is laid down for live nodes is the start.
-use Rattle.std.proofs.Common.{◌≡◌, ℕ, zero, suc, ◌+◌, ◌*◌, ◌<◌, List, [], ◌∷◌, ◌++◌, length, replicate, sym, refl, ap, ◌∙◌, subst, arith, Some}
+use Rattle.std.proofs.Common.{◌≡◌, ℕ, zero, suc, ◌+◌, ◌<◌, List, [], ◌∷◌, ◌++◌, length, replicate, sym, refl, ap, ◌∙◌, subst, arith, Some}
 use Rattle.std.specs.Prelude.{slice_index}
 use Rattle.std.proofs.lemmas.List.{get_or_append_left, length-append}
-use mathlib.Core.Option.{some}
-use lib.ListN.{get_elem?}
 use Rattle.morton_key.specs.declared.keys.Key.{Key}
-use Rattle.arrival_core.specs.declared.packets.Side.{Side}
 use Rattle.arrival_core.specs.declared.packets.Side.TheVariants.{Left, Right}
-use Rattle.arrival_core.specs.Frames.{Frame, packet_at, live_at}
+use Rattle.arrival_core.specs.Frames.{Frame, live_at}
 use Rattle.arrival_core.specs.Settings.{frame_of, batch_count}
 use Rattle.box_handoff.specs.declared.slots.SlotPacket.{SlotPacket}
 use Rattle.box_handoff.specs.declared.views.Given.{Given}
 use Rattle.box_handoff.specs.declared.laying.Moves.{Moves}
 use Rattle.box_handoff.specs.LiveNodes.{Shown, splits_of}
 use Rattle.box_handoff.specs.Entries.{IsGiven, frame, numbers}
-use Rattle.box_handoff.specs.Rule.{slot}
-use Rattle.box_handoff.specs.Starting.{Starts, start_word, start_slot}
-use Rattle.box_handoff.specs.Laying.{AreMoves, over, given_over, words_of, slots_of}
+use Rattle.box_handoff.specs.Slots.{blank}
+use Rattle.box_handoff.specs.Starting.{Starts, start_word}
+use Rattle.box_handoff.specs.Laying.{AreMoves, over, given_over, words_of}
 use Rattle.box_handoff.proofs.Opening.{word_zero, length_rep}
 use Rattle.box_handoff.proofs.NumberLaws.{at_place, count_some, number_some, there_some}
 
--- words and slots by index
+-- there are as many words as splits
 length_words : (f : Frame) (xs : List ℕ) → length (words_of f xs) ≡ length xs
 unfolding words_of
 length_words f [] = refl
 length_words f (x ∷ xs) = ap suc (length_words f xs)
 
-length_slots : (f : Frame) (xs : List ℕ) → length (slots_of f xs) ≡ 2 * length xs
-unfolding slots_of
-length_slots f [] = refl
-length_slots f (x ∷ xs) = let h : length (slots_of f xs) ≡ 2 * length xs = length_slots f xs in omega arith
-
+-- the word of a place is that of the split there
 word_at : (f : Frame) (xs : List ℕ) (i : ℕ) → i < length xs → slice_index (words_of f xs) i
     ≡ start_word (live_at f (slice_index xs i) Left) (live_at f (slice_index xs i) Right)
 unfolding words_of
 word_at f [] i l = absurd (omega arith)
 word_at f (x ∷ xs) zero l = refl
 word_at f (x ∷ xs) (suc i) l = word_at f xs i (let z : i < length xs = omega arith in z)
-
-abbrev started : Frame → List ℕ → ℕ → Side → SlotPacket
-started f xs i d = start_slot d (live_at f (slice_index xs i) d) (packet_at f (slice_index xs i) d)
-
-left_at : (f : Frame) (xs : List ℕ) (i : ℕ) → i < length xs →
-    get_elem? (slots_of f xs) (2 * i) ≡ some (started f xs i Left)
-unfolding slots_of
-left_at f [] i l = absurd (omega arith)
-left_at f (x ∷ xs) zero l = refl
-left_at f (x ∷ xs) (suc i) l =
-    let z : 2 * suc i ≡ suc (suc (2 * i)) = omega arith in
-    ap (get_elem? (slots_of f (x ∷ xs))) z ∙ left_at f xs i (let z : i < length xs = omega arith in z)
-
-right_at : (f : Frame) (xs : List ℕ) (i : ℕ) → i < length xs →
-    get_elem? (slots_of f xs) (suc (2 * i)) ≡ some (started f xs i Right)
-unfolding slots_of
-right_at f [] i l = absurd (omega arith)
-right_at f (x ∷ xs) zero l = refl
-right_at f (x ∷ xs) (suc i) l =
-    let z : suc (2 * suc i) ≡ suc (suc (suc (2 * i))) = omega arith in
-    ap (get_elem? (slots_of f (x ∷ xs))) z ∙ right_at f xs i (let z : i < length xs = omega arith in z)
-
-slot_at : (f : Frame) (xs : List ℕ) (i : ℕ) → i < length xs → (d : Side) →
-    get_elem? (slots_of f xs) (slot i d) ≡ some (started f xs i d)
-slot_at f xs i l Left = let z : 2 * i + 0 ≡ 2 * i = omega arith in ap (get_elem? (slots_of f xs)) z ∙ left_at f xs i l
-slot_at f xs i l Right = let z : 2 * i + 1 ≡ suc (2 * i) = omega arith in ap (get_elem? (slots_of f xs)) z
-    ∙ right_at f xs i l
 
 -- behind so many words
 behind : (base i : ℕ) (ws : List ℕ) → slice_index (replicate base 0 ++ ws) (base + i) ≡ slice_index ws i
@@ -72,6 +38,7 @@ behind (suc base) i ws =
     let z : suc base + i ≡ suc (base + i) = omega arith in
     ap (slice_index (replicate (suc base) 0 ++ ws)) z ∙ behind base i ws
 
+-- so many zeros
 abbrev zeros : ℕ → List ℕ
 zeros n = replicate n 0
 
@@ -82,7 +49,12 @@ module _ (m : Moves) (ok : AreMoves m) where
   -- the live nodes' splits may be listed
   pub live_given : IsGiven g
   unfolding frame
-  live_given = record { task = ok.task; few = ok.few; spots = refl }
+  live_given = record {
+    task = ok.task;
+    few = ok.few;
+    spots = refl;
+    rests = record { keys_are = refl; table = ok.table; rest = ok.rest };
+  }
 
   over_is : over m ≡ frame g
   unfolding frame
@@ -107,14 +79,13 @@ module _ (m : Moves) (ok : AreMoves m) where
 
   module _ (words : List ℕ) (slots : List SlotPacket)
       (ws : words ≡ replicate (batch_count m.live.now) 0 ++ words_of (over m) (splits_of (over m)))
-      (ss : slots ≡ slots_of (over m) (splits_of (over m))) where
+      (ss : slots ≡ replicate (length (splits_of (over m)) + 1) blank) where
+    -- the words are those of the frame
     base : words ≡ replicate (frame g).batches 0 ++ words_of (frame g) (splits_of (over m))
     base = ws ∙ ap (λ (n : ℕ). replicate n 0 ++ words_of (over m) (splits_of (over m))) (sym batches_are)
         ∙ ap (λ (f : Frame). replicate (frame g).batches 0 ++ words_of f (splits_of (over m))) over_is
 
-    places : slots ≡ slots_of (frame g) (splits_of (over m))
-    places = ss ∙ ap (λ (f : Frame). slots_of f (splits_of (over m))) over_is
-
+    -- and so is what is laid down
     pub live_starts : Starts (frame g) (numbers g) words slots
     live_starts = record {
       word_count = ap (λ (l : List ℕ). length l) base
@@ -122,8 +93,6 @@ module _ (m : Moves) (ok : AreMoves m) where
           ∙ (let a = length_rep {A = ℕ} (frame g).batches 0 in
           let b = length_words (frame g) (splits_of (over m)) in
           let k = count_is in omega (arith, a, b, k));
-      slot_count = ap (λ (l : List SlotPacket). length l) places ∙ length_slots (frame g) (splits_of (over m))
-          ∙ ap (λ (n : ℕ). 2 * n) (sym count_is);
       claims = λ j l. ap (λ (x : List ℕ). slice_index x j) base
           ∙ get_or_append_left (zeros (frame g).batches) (words_of (frame g) (splits_of (over m))) 0 j
           (let z = length_rep {A = ℕ} (frame g).batches 0 in omega (arith, z, l)) ∙ word_zero (frame g).batches j;
@@ -133,11 +102,7 @@ module _ (m : Moves) (ok : AreMoves m) where
           ∙ behind (frame g).batches ((numbers g).number t) (words_of (frame g) (splits_of (over m)))
           ∙ word_at (frame g) (splits_of (over m)) ((numbers g).number t) h.0
           ∙ ap (λ (n : ℕ). start_word (live_at (frame g) n Left) (live_at (frame g) n Right)) h.1;
-      kept = λ t d l.
-          let h = here t l in
-          ap (λ (x : List SlotPacket). get_elem? x (slot ((numbers g).number t) d)) places
-          ∙ slot_at (frame g) (splits_of (over m)) ((numbers g).number t) h.0 d
-          ∙ ap (λ (n : ℕ). some (start_slot d (live_at (frame g) n d) (packet_at (frame g) n d))) h.1;
+      blanks = ss ∙ ap (λ (n : ℕ). replicate (n + 1) blank) (sym count_is);
     }
 
 -- what a handoff is given that is made of a list, by its parts
@@ -148,5 +113,6 @@ pub given_is : (m : Moves) (keys : List Key) (live spots : List ℕ) → keys �
       live = live;
       seats = m.seats;
       spots = Some spots;
+      tree = Some m.tree.now;
     }) (given_over m (Some (splits_of (over m))))
 given_is m keys live spots a b c = rw a (rw b (rw c refl))

@@ -17,7 +17,7 @@ use Rattle.box_handoff.specs.declared.views.Event.TheVariants.{Take}
 use Rattle.box_handoff.specs.declared.views.Given.{Given}
 use Rattle.box_handoff.specs.declared.views.View.{View}
 use Rattle.box_handoff.specs.Entries.{Numbers, numbers, one, frame, grown, after, moved, worker_of}
-use Rattle.box_handoff.specs.Rule.{Rule, Shows, ShowsBatch, bit_on}
+use Rattle.box_handoff.specs.Rule.{Rule, Shows, ShowsBatch, bit_on, by_slot, by_word}
 use Rattle.box_handoff.specs.Plays.{Mine, mine, Took}
 use Rattle.box_handoff.proofs.Standing.{held_worker, phase_is, stands, few_after}
 use Rattle.box_handoff.proofs.WordLaws.{batch_set, side_same_words, node_same_words}
@@ -34,6 +34,7 @@ module _ (g : Given) (id : ℕ) (me : Mine) (is : me.0 ≡ one g (mine me)) (k :
     abbrev m : State
     m = h.machine
 
+    -- the state after it
     abbrev done : State
     done = core.take f (mine me).number m
 
@@ -44,10 +45,12 @@ module _ (g : Given) (id : ℕ) (me : Mine) (is : me.0 ≡ one g (mine me)) (k :
     abbrev found : Bool
     found = bit_on (slice_index s.words k) 0
 
+    -- the event of the machine is this one
     event_is : event f (mine me).number m ≡ done
     unfolding event event_in
     event_is = ap (λ (p : Phase). event_in f (mine me).number p m) (phase_is g id me is s h at Looking phase)
 
+    -- it changes this worker alone
     worker_is : done.worker ≡ put m.worker (mine me).number (worker_of (grown f (mine me) (Take found)))
     unfolding core.take after
     worker_is = ap (put m.worker (mine me).number)
@@ -55,11 +58,13 @@ module _ (g : Given) (id : ℕ) (me : Mine) (is : me.0 ≡ one g (mine me)) (k :
         ∙ ap (taken (worker_of (mine me))) (ap m.claimed next ∙ h.shows.claims k batch)
         ∙ sym (ap (λ (p : Phase). moved f (worker_of (mine me)) (Take found) p) phase))
 
+    -- it claims this batch
     claimed : done.claimed ≡ put m.claimed k true
     unfolding core.take
     claimed = ap (λ (n : ℕ). put m.claimed n true)
         (ap (λ (w : Worker). w.next) (held_worker g id me is s h at) ∙ next)
 
+    -- the table shows the state after it
     shown : Shows f N (set s.words k (bit_or (slice_index s.words k) 1)) s.homes done
     unfolding core.take
     shown = let c = h.shows.word_count in record {
@@ -67,13 +72,15 @@ module _ (g : Given) (id : ℕ) (me : Mine) (is : me.0 ≡ one g (mine me)) (k :
       slot_count = h.shows.slot_count;
       claims = subst (λ (x : ℕ → Bool). ShowsBatch f (set s.words k (bit_or (slice_index s.words k) 1)) x) (sym claimed)
           (batch_set f N s.words k c batch m.claimed h.shows.claims);
-      opened = side_same_words f N s.words k c batch 0 m.opened h.shows.opened;
+      opened = side_same_words f N s.words k c batch 0 (by_word f m.opened) h.shows.opened;
+      handed = side_same_words f N s.words k c batch 7 (by_slot f m.opened) h.shows.handed;
       arrived = side_same_words f N s.words k c batch 2 m.arrived h.shows.arrived;
       collected = side_same_words f N s.words k c batch 4 m.collected h.shows.collected;
       returned = node_same_words f N s.words k c batch 6 m.returned h.shows.returned;
       places = h.shows.places;
     }
 
+  -- the step on that word is allowed
   taking_at : (slots : ℕ) → Allows (Rule g) slots id me k (λ n. bit_or n 1) (Took (step slots k 1 0 none) me)
   taking_at slots s h sized at fits =
       let ev = Take (found s h at) in

@@ -12,7 +12,7 @@ use Rattle.arrival_core.proofs.WholeLaws as core
 use Rattle.box_handoff.specs.declared.views.Given.{Given}
 use Rattle.box_handoff.specs.declared.fitted.Fitted.{Fitted}
 use Rattle.box_handoff.specs.LiveNodes.{AreSpots, splits_of}
-use Rattle.box_handoff.specs.Entries.{IsGiven, setting_of, frame, numbers}
+use Rattle.box_handoff.specs.Entries.{IsGiven, Rests, setting_of, frame, numbers}
 use Rattle.box_handoff.specs.Packets.{child_packet, ArePackets, ArePacketsOf, AreFitted, AreLiveFitted}
 use Rattle.box_handoff.specs.Counts.{IsCounted, IsLiveCounted}
 use Rattle.box_handoff.proofs.SplitLists.{splits_all}
@@ -30,11 +30,12 @@ module _ (g : Given) (ok : IsWhole (setting_of g)) where
   all_live_nodes t lt = core.all_live_nodes (setting_of g) ok t lt
 
   -- keys whose leaves are all live may be given, with no list of splits
-  pub whole_given : g.spots ≡ None → IsGiven g
-  whole_given none = record {
+  pub whole_given : g.spots ≡ None → g.tree ≡ None → IsGiven g
+  whole_given none tree = record {
     task = core.whole_task (setting_of g) ok;
     few = ok.few;
     spots = subst (AreSpots (frame g)) (sym none) all_live_nodes;
+    rests = subst (Rests g) (sym tree) tt;
   }
 
 -- where all leaves are live, the splits of the live nodes are all numbers below the count of nodes

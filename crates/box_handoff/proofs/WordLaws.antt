@@ -1,5 +1,5 @@
 -- What setting one bit of one word, or one slot, does to what is shown.
-use Rattle.std.proofs.Common.{◌≡◌, ◌≢◌, ℕ, ◌+◌, ◌*◌, ◌^◌, ◌<◌, ◌≤◌, ⊎_elim, Bool, true, false, List, length, set, sym, refl, ap, ◌∙◌, subst, arith, eqb, eq-eqb}
+use Rattle.std.proofs.Common.{◌≡◌, ◌≢◌, ℕ, ◌+◌, ◌^◌, ◌<◌, ◌≤◌, ⊎_elim, Bool, true, false, List, length, set, sym, refl, ap, ◌∙◌, subst, arith, eqb, eq-eqb}
 use Rattle.std.specs.Prelude.{slice_index, bit_or}
 use Rattle.std.specs.Int.{bit_at}
 use Rattle.std.proofs.lemmas.Nat.Bits.{bit_at_or, bit_at-pow_same, bit_at-pow_other, bit_at-lt}
@@ -15,9 +15,10 @@ use Rattle.arrival_core.specs.Frames.{Frame}
 use Rattle.arrival_core.specs.Events.{put, put_side, same}
 use Rattle.arrival_core.proofs.PutLaws.{put-here, put-other, put_side-same, put_side-apart, same-refl, same-node, same-side}
 use Rattle.box_handoff.specs.declared.slots.SlotPacket.{SlotPacket}
-use Rattle.box_handoff.specs.LiveNodes.{Shown}
+use Rattle.box_handoff.specs.LiveNodes.{Shown, slotted}
 use Rattle.box_handoff.specs.Entries.{Numbers, IsNumbered}
 use Rattle.box_handoff.specs.Rule.{bit_on, side_no, slot, node_word, ShowsSide, ShowsNode, ShowsBatch, ShowsPlace, ShowsPlaces}
+use Rattle.box_handoff.proofs.Lending.{homes_set}
 
 -- a bit that is set is on
 bit_set : (n b : ℕ) → bit_on (bit_or n (2 ^ b)) b ≡ true
@@ -31,7 +32,7 @@ unfolding bit_on
 bit_kept n b c ne = ap (λ (x : ℕ). eqb x 1) (let e = bit_at_or n (2 ^ b) c in let p = bit_at-pow_other b c ne in
     let l : bit_at (bit_or n (2 ^ b)) c ≡ bit_at n c = omega arith in l)
 
--- ---- two sides
+-- ---- two sides: their numbers differ
 pub side_apart : (d e : Side) → d ≢ e → side_no d ≢ side_no e
 side_apart Left Left n = λ h. n refl
 side_apart Left Right n = λ h. omega arith
@@ -51,7 +52,7 @@ side_same Right Left h = absurd (omega arith)
 side_same Right Right h = refl
 
 -- another side of the same node
-not_same : (s : ℕ) (d : Side) (t : ℕ) (e : Side) → same s d t e ≡ false → (s ≡ t) → d ≢ e
+pub not_same : (s : ℕ) (d : Side) (t : ℕ) (e : Side) → same s d t e ≡ false → (s ≡ t) → d ≢ e
 not_same s d t e off is eq = let on : same s d t e ≡ true = subst (λ (x : ℕ). same s d x e ≡ true) is
     (subst (λ (x : Side). same s d s x ≡ true) eq (same-refl s d)) in cc
 
@@ -65,6 +66,7 @@ module _ (f : Frame) (num : Numbers) (numbered : IsNumbered f num) (words : List
   abbrev pub words' : List ℕ
   words' = with_bit words (f.batches + num.number s) b
 
+  -- the node has a word
   there : f.batches + num.number s < length words
   there = let w = numbered.within s node in omega arith
 
@@ -73,12 +75,15 @@ module _ (f : Frame) (num : Numbers) (numbered : IsNumbered f num) (words : List
   other_word t l ne = get_or-set_other words (f.batches + num.number s) (f.batches + num.number t) _ 0
       (λ h. ne (numbered.apart t s l node (omega arith)))
 
+  -- the node's own word has the bit set
   this_word : node_word f num words' s ≡ bit_or (node_word f num words s) (2 ^ b)
   this_word = get_or-set_same words (f.batches + num.number s) _ 0 there
 
+  -- so the bit is on
   bit_here : bit_on (node_word f num words' s) b ≡ true
   bit_here = ap (λ (n : ℕ). bit_on n b) this_word ∙ bit_set (node_word f num words s) b
 
+  -- and each other bit is as before
   bit_else : (t c : ℕ) → Shown f t → (t ≡ s → c ≢ b) → bit_on (node_word f num words' t) c ≡ bit_on
       (node_word f num words t) c
   bit_else t c l ne = ⊎_elim
@@ -135,6 +140,7 @@ module _ (f : Frame) (num : Numbers) (words : List ℕ) (k : ℕ) (count : lengt
       (λ (n : k ≢ j). put-other bits k true j n ∙ shows j l
       ∙ ap (λ (n : ℕ). bit_on n 0) (sym (get_or-set_other words k j _ 0 (λ h. n (sym h))))) (cases_eq k j)
 
+  -- the words of nodes are as before
   node_same : (t : ℕ) → node_word f num claimed' t ≡ node_word f num words t
   node_same t = get_or-set_other words k (f.batches + num.number t) _ 0 (λ h. omega arith)
 
@@ -148,35 +154,44 @@ module _ (f : Frame) (num : Numbers) (words : List ℕ) (k : ℕ) (count : lengt
       ShowsNode f num claimed' base bits
   node_same_words base bits shows t l = shows t l ∙ ap (λ (n : ℕ). bit_on n base) (sym (node_same t))
 
--- ---- a slot
-slot_apart : (f : Frame) (num : Numbers) → IsNumbered f num → (s : ℕ) (d : Side) (t : ℕ) (e : Side) → Shown f s →
-    Shown f t → same s d t e ≡ false → slot (num.number t) e ≢ slot (num.number s) d
-slot_apart f num numbered s d t e ls lt off h = let a = side_le d in let b = side_le e in
-    let u : s ≡ t = numbered.apart s t ls lt (omega arith) in
-    side_apart d e (not_same s d t e off u) (omega arith)
+-- bits that are the same show the same
+pub side_equal : (f : Frame) (num : Numbers) (words : List ℕ) (base : ℕ) (bits more : ℕ → Side → Bool) →
+    ((t : ℕ) (d : Side) → more t d ≡ bits t d) → ShowsSide f num words base bits → ShowsSide f num words base more
+side_equal f num words base bits more is shows t d l = is t d ∙ shows t d l
 
--- the slots with one changed show the places with one changed
-pub place_set : (f : Frame) (num : Numbers) → IsNumbered f num →
-    (homes : List (Maybe SlotPacket)) (places : ℕ → Side →
-    Place) (s : ℕ) (d : Side) (h : Maybe SlotPacket) (p : Place) → length homes ≡ 2 * num.count → Shown f s
-    → ShowsPlace d h p → ShowsPlaces f num homes places →
-    ShowsPlaces f num (set homes (slot (num.number s) d) h) (put_side places s d p)
-place_set f num numbered homes places s d h p count node new shows t e l = ⊎_elim
-    (λ (on : same s d t e ≡ true). (
-      h,
-      subst (λ (x : ℕ). get_elem? (set homes (slot (num.number s) d) h) x ≡ some h) (slots on)
-          (set_here homes (slot (num.number s) d) h (let b = side_le d in let w = numbered.within s node in
-          omega arith)),
-      subst (λ (x : Side). ShowsPlace x h (put_side places s d p t e)) (same-side s d t e on)
-          (subst (λ (x : Place). ShowsPlace d h x) (sym (put_side-same places s d p t e on)) new),
-    ))
-    (λ (off : same s d t e ≡ false). let was = shows t e l in (
-      was.0,
-      set_else homes (slot (num.number s) d) (slot (num.number t) e) h (slot_apart f num numbered s d t e node l off)
-          ∙ was.1,
-      subst (λ (x : Place). ShowsPlace e was.0 x) (sym (put_side-apart places s d p t e off)) was.2,
-    )) (cases_Bool (same s d t e))
-  where
-    slots : same s d t e ≡ true → slot (num.number s) d ≡ slot (num.number t) e
-    slots on = ap (λ (x : ℕ). slot (num.number x) d) (same-node s d t e on)
-        ∙ ap (λ (x : Side). slot (num.number t) x) (same-side s d t e on)
+-- ---- a slot
+module _ (f : Frame) (num : Numbers) (numbered : IsNumbered f num) (homes : List (Maybe SlotPacket))
+    (places : ℕ → Side → Place) (s : ℕ) (d : Side) (h : Maybe SlotPacket) (p : Place)
+    (count : length homes ≡ num.count + 1) (node : Shown f s)
+    (apart : (t : ℕ) (e : Side) → Shown f t → slotted f s d ≡ true → slotted f t e ≡ true → same s d t e ≡ false →
+    slot (num.number t) e ≢ slot (num.number s) d)
+    (new : ShowsPlace d h p) (shows : ShowsPlaces f num homes places) where
+  -- the slots with one changed show the places with one changed; a child that has no slot changes none
+  pub place_set : (b : Bool) → slotted f s d ≡ b →
+      ShowsPlaces f num (homes_set b homes (slot (num.number s) d) h) (put_side places s d p)
+  place_set true has t e l on = ⊎_elim
+      (λ (is : same s d t e ≡ true). (
+        h,
+        subst (λ (x : ℕ). get_elem? (set homes (slot (num.number s) d) h) x ≡ some h) (slots is)
+            (set_here homes (slot (num.number s) d) h
+            (let b = side_le d in let w = numbered.within s node in omega (arith, b, w, count))),
+        subst (λ (x : Side). ShowsPlace x h (put_side places s d p t e)) (same-side s d t e is)
+            (subst (λ (x : Place). ShowsPlace d h x) (sym (put_side-same places s d p t e is)) new),
+      ))
+      (λ (off : same s d t e ≡ false). let was = shows t e l on in (
+        was.0,
+        set_else homes (slot (num.number s) d) (slot (num.number t) e) h (apart t e l has on off) ∙ was.1,
+        subst (λ (x : Place). ShowsPlace e was.0 x) (sym (put_side-apart places s d p t e off)) was.2,
+      )) (cases_Bool (same s d t e))
+    where
+      slots : same s d t e ≡ true → slot (num.number s) d ≡ slot (num.number t) e
+      slots is = ap (λ (x : ℕ). slot (num.number x) d) (same-node s d t e is)
+          ∙ ap (λ (x : Side). slot (num.number t) x) (same-side s d t e is)
+  place_set false none t e l on = ⊎_elim
+      (λ (is : same s d t e ≡ true). let no : false ≡ true = sym none
+      ∙ ap (λ (x : ℕ). slotted f x d) (same-node s d t e is) ∙ ap (slotted f t) (same-side s d t e is) ∙ on in cc)
+      (λ (off : same s d t e ≡ false). let was = shows t e l on in (
+        was.0,
+        was.1,
+        subst (λ (x : Place). ShowsPlace e was.0 x) (sym (put_side-apart places s d p t e off)) was.2,
+      )) (cases_Bool (same s d t e))

@@ -11,7 +11,7 @@ use Rattle.arrival_core.specs.declared.packets.Packet.{Packet}
 use Rattle.box_handoff.specs.declared.fitted.Fitted.{Fitted}
 use Rattle.box_handoff.specs.declared.slots.SlotPacket.{SlotPacket}
 use Rattle.box_handoff.specs.declared.views.Given.{Given}
-use Rattle.box_handoff.specs.Gathering.{IsTaking}
+use Rattle.box_handoff.specs.Gathering.{HasBefore}
 use Rattle.box_handoff.specs.Packets.{AreFitted}
 
 -- the row that a packet tells
@@ -54,8 +54,8 @@ pub record IsWriting (keys : List Key) (x : Fitted) (t : ℕ) (nodes : List Node
       AreWritten keys boxes t nodes
 
 -- while rows are written out of a closed table over all leaves
-pub record IsWritingOut (g : Given) (slots : List SlotPacket) (filled : List Bool) (places t : ℕ)
-    (nodes : List Node) : Type 0 where
-  pub taking : IsTaking g slots filled places t
+pub record IsWritingOut (g : Given) (slots : List SlotPacket) (filled : List Bool) (places : ℕ)
+    (here : SlotPacket) (t : ℕ) (nodes : List Node) : Type 0 where
+  pub taking : HasBefore g slots filled places t here
   pub count : length nodes ≡ length g.keys - 1
   pub written : AreWritten g.keys g.boxes t nodes

@@ -7,7 +7,7 @@ use Rattle.arrival_core.specs.declared.packets.Load.{Load}
 use Rattle.arrival_core.specs.declared.packets.Up.{Up}
 use Rattle.arrival_core.specs.declared.packets.Phase.{Phase}
 use Rattle.arrival_core.specs.declared.packets.Phase.TheVariants.{Looking, Carry, Opened, Second, Collecting}
-use Rattle.arrival_core.specs.Frames.{Frame, packet_at}
+use Rattle.arrival_core.specs.Frames.{Frame, live_at, packet_at}
 use Rattle.arrival_core.specs.Events.{stepped, resume, join}
 use Rattle.arrival_core.specs.States.{Worker}
 use Rattle.box_handoff.specs.declared.slots.SlotPacket.{SlotPacket}
@@ -51,10 +51,11 @@ pub record Climbed (g : Given) (old new : Seat SlotPacket View) : Type 0 where
   pub grew : Grew (frame g) (mine old.me) (mine new.me)
   pub small : IsSmall (mine old.me).tally → IsSmall (mine new.me).tally
 
--- a load for a side of a node, with the packet of the child there
+-- a load for a side of a live node, with the packet of the live child there
 pub record IsCarried (f : Frame) (l : Load) : Type 0 where
   pub node : l.split < f.nodes
   pub live : f.live_node l.split ≡ true
+  pub own : live_at f l.split l.side ≡ true
   pub packet : l.packet ≡ packet_at f l.split l.side
 
 -- the number of a live node

@@ -1,7 +1,5 @@
 -- A worker by its list of events, and the entries of views.
 use Rattle.std.specs.Prelude.{ℕ, suc, zero, ◌≡◌, ◌<◌, ◌≤◌, ◌+◌, ◌==◌, cond, if◌then◌else◌, List, [], ◌∷◌, ◌++◌, length, Option, Some, None}
-use Rattle.std.specs.declared.vec.Vec.{Vec}
-use Rattle.std.specs.declared.alloc.Global.{Global}
 use mathlib.Core.Option.{some}
 use lib.ListN.{get_elem?}
 use Rattle.arrival_core.specs.declared.packets.TheConstants.{MOST_WORKERS}
@@ -12,12 +10,14 @@ use Rattle.arrival_core.specs.States.{Worker}
 use Rattle.arrival_core.specs.Events.{resume, stepped, join, go_up}
 use Rattle.arrival_core.specs.Start.{fresh}
 use Rattle.arrival_core.specs.Settings.{Setting, frame_of}
-use Rattle.arrival_core.specs.Tasks.{IsTask}
+use Rattle.arrival_core.specs.Tasks.{IsTask, FitsButFor}
+use Rattle.radix_tree.specs.Table.{Contents, IsTable}
 use Rattle.box_handoff.specs.declared.views.Event.{Event}
 use Rattle.box_handoff.specs.declared.views.Event.TheVariants.{Take, Open, Arrive, Collect, Leave}
 use Rattle.box_handoff.specs.declared.views.Given.{Given}
 use Rattle.box_handoff.specs.declared.views.Entry.{Entry}
 use Rattle.box_handoff.specs.declared.views.View.{View}
+use Rattle.box_handoff.specs.declared.views.Spots.{Spots}
 use Rattle.box_handoff.specs.declared.views.About.{About}
 use Rattle.box_handoff.specs.LiveNodes.{Shown, AreSpots}
 
@@ -27,9 +27,13 @@ setting_of g = record { keys = g.keys; boxes = g.boxes; live = g.live; workers =
 unfoldable pub frame : Given → Frame
 frame g = frame_of (setting_of g)
 
-abbrev pub spots_of : Option (Vec ℕ Global) → Option (List ℕ)
+abbrev pub spots_of : Option Spots → Option (List ℕ)
 spots_of None = None
-spots_of (Some v) = Some v.items
+spots_of (Some s) = Some s.splits.items
+
+abbrev pub tree_of : Option Spots → Option Contents
+tree_of None = None
+tree_of (Some s) = Some s.tree.now
 
 abbrev pub given_of : About → Given
 given_of a = record {
@@ -38,15 +42,29 @@ given_of a = record {
   live = a.live.items;
   seats = a.seats;
   spots = spots_of a.spots;
+  tree = tree_of a.spots;
 }
 
--- what a handoff may be given: what the machine may be set to, seats for its workers, and the splits of its live nodes
+-- a tree of the same keys, fitted wherever nothing is live
+pub record IsResting (g : Given) (t : Contents) : Type 0 where
+  pub keys_are : g.keys ≡ t.keys
+  pub table : IsTable t
+  pub rest : FitsButFor t g.boxes g.live
+
+-- what is not live rests in such a tree, where there is one
+abbrev pub Rests : Given → Option Contents → Type 0
+Rests g None = Unit {0}
+Rests g (Some t) = IsResting g t
+
+-- what a handoff may be given: what the machine may be set to, seats for its workers, the splits of its live nodes, and
+-- the tree in which the others rest
 pub record IsGiven (g : Given) : Type 0 where
   pub task : IsTask (setting_of g)
   pub few : g.seats ≤ MOST_WORKERS
   pub spots : AreSpots (frame g) g.spots
+  pub rests : Rests g g.tree
 
--- how many nodes a table has words and places for, and which number each has there
+-- how many nodes a table has words for, and which number each has there
 pub record Numbers : Type 0 where
   pub count : ℕ
   pub number : ℕ → ℕ
@@ -56,7 +74,7 @@ unfoldable pub place_in : List ℕ → ℕ → ℕ
 place_in [] t = 0
 place_in (x ∷ xs) t = if x == t then 0 else suc (place_in xs t)
 
--- each listed node has a word and two places, in the order of the list; with no list each of all nodes, by its split
+-- each listed node has a word, in the order of the list; with no list each of all nodes, by its split
 unfoldable pub numbers_in : ℕ → Option (List ℕ) → Numbers
 numbers_in nodes None = record { count = nodes; number = λ t. t }
 numbers_in nodes (Some spots) = record { count = length spots; number = place_in spots }
@@ -64,10 +82,11 @@ numbers_in nodes (Some spots) = record { count = length spots; number = place_in
 unfoldable pub numbers : Given → Numbers
 numbers g = numbers_in (frame g).nodes g.spots
 
--- each live node has a number of its own, and each number is a live node's
+-- each live node has a number of its own, in the order of their splits, and each number is a live node's
 pub record IsNumbered (f : Frame) (num : Numbers) : Type 0 where
   pub within : (t : ℕ) → Shown f t → num.number t < num.count
   pub apart : (s t : ℕ) → Shown f s → Shown f t → num.number s ≡ num.number t → s ≡ t
+  pub rising : (s t : ℕ) → Shown f s → Shown f t → s < t → num.number s < num.number t
   pub each : (i : ℕ) → i < num.count → (t : ℕ) × Shown f t × (num.number t ≡ i)
 
 -- what one event makes of a worker in a phase

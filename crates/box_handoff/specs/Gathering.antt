@@ -12,15 +12,16 @@ use Rattle.arrival_core.specs.declared.packets.Side.TheVariants.{Left, Right}
 use Rattle.arrival_core.specs.declared.packets.Tally.{Tally}
 use Rattle.arrival_core.specs.Frames.{packet_at}
 use Rattle.box_handoff.specs.declared.slots.SlotPacket.{SlotPacket}
+use Rattle.box_handoff.specs.declared.words.TheConstants.{HANDED}
 use Rattle.box_handoff.specs.declared.views.Given.{Given}
 use Rattle.box_handoff.specs.declared.views.Entry.{Entry}
 use Rattle.box_handoff.specs.declared.views.View.{View}
 use Rattle.box_handoff.specs.declared.seats.HandSeat.{HandSeat}
 use Rattle.box_handoff.specs.Slots.{packed}
-use Rattle.box_handoff.specs.LiveNodes.{Shown, splits_of}
+use Rattle.box_handoff.specs.LiveNodes.{Shown, slotted, splits_of}
 use Rattle.box_handoff.specs.Entries.{frame, numbers, unbegun_below, total, In}
 use Rattle.box_handoff.specs.Packets.{ArePacketsOf}
-use Rattle.box_handoff.specs.Rule.{slot}
+use Rattle.box_handoff.specs.Rule.{slot, bit_on, side_no, node_word}
 use Rattle.box_handoff.specs.Seats.{IsSeat, seat_fits, seat_steps}
 
 -- a seat of that number that has not begun
@@ -84,21 +85,34 @@ pub record IsGathering (g : Given) (z : TableId) (all left : List HandSeat) (bef
   pub fits_low : sum.fits + 2 ^ 32 * length left ≤ 2 ^ 38
   pub steps_low : sum.steps + 2 ^ 32 * length left ≤ 2 ^ 38
 
--- each slot of a closed table keeps its child's packet
+-- each slot of a closed table that is a child's keeps its packet
 abbrev pub AreKept : Given → List SlotPacket → Type 0
-AreKept g slots = (t : ℕ) (d : Side) → Shown (frame g) t →
+AreKept g slots = (t : ℕ) (d : Side) → Shown (frame g) t → slotted (frame g) t d ≡ true →
     get_elem? slots (slot ((numbers g).number t) d) ≡ some (packed d (packet_at (frame g) t d))
 
--- while packets are taken out of a closed table: those of the first so many nodes are out
+-- its words tell which children have a slot
+pub record AreFlags (g : Given) (words : List ℕ) (filled : List Bool) (count : ℕ) : Type 0 where
+  pub places : count ≡ (frame g).batches + (numbers g).count
+  pub full : (k : ℕ) → 0 ≤ k → k < count → slice_index_or filled k false ≡ true
+  pub tells : (t : ℕ) (d : Side) → Shown (frame g) t →
+      bit_on (node_word (frame g) (numbers g) words t) (HANDED + side_no d) ≡ slotted (frame g) t d
+
+-- while packets are taken out of a closed table: the first so many slots are out
 pub record IsTaking (g : Given) (slots : List SlotPacket) (filled : List Bool) (count t : ℕ) : Type 0 where
   pub kept : AreKept g slots
-  pub places : count ≡ 2 * (numbers g).count
-  pub full : (k : ℕ) → 2 * t ≤ k → k < count → slice_index_or filled k false ≡ true
-  pub empty : (k : ℕ) → k < 2 * t → slice_index_or filled k false ≡ false
+  pub places : count ≡ (numbers g).count + 1
+  pub full : (k : ℕ) → t ≤ k → k < count → slice_index_or filled k false ≡ true
+  pub empty : (k : ℕ) → k < t → slice_index_or filled k false ≡ false
 
--- and they are listed
+-- the slot before the node of a number is out
+pub record HasBefore (g : Given) (slots : List SlotPacket) (filled : List Bool) (count t : ℕ)
+    (here : SlotPacket) : Type 0 where
+  pub taking : IsTaking g slots filled count (t + 1)
+  pub here_is : get_elem? slots t ≡ some here
+
+-- and the packets are listed
 pub record IsReading (g : Given) (slots : List SlotPacket) (filled : List Bool) (count : ℕ)
-    (left right : List Packet) (t : ℕ) : Type 0 where
-  pub taking : IsTaking g slots filled count t
+    (here : SlotPacket) (left right : List Packet) (t : ℕ) : Type 0 where
+  pub taking : HasBefore g slots filled count t here
   pub lefts : ArePacketsOf g.keys g.boxes (splits_of (frame g)) Left t left
   pub rights : ArePacketsOf g.keys g.boxes (splits_of (frame g)) Right t right

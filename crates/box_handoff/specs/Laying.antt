@@ -1,17 +1,16 @@
 -- What a table for live nodes alone is laid down from, and what is laid down. No public clause cites this module.
-use Rattle.std.specs.Prelude.{ℕ, ◌≡◌, ◌≤◌, List, [], ◌∷◌, ◌++◌, Option}
+use Rattle.std.specs.Prelude.{ℕ, ◌≡◌, ◌≤◌, List, [], ◌∷◌, ◌++◌, Option, Some}
 use Rattle.radix_tree.specs.Table.{IsTable}
 use Rattle.arrival_core.specs.declared.packets.TheConstants.{MOST_WORKERS}
 use Rattle.arrival_core.specs.declared.packets.Side.TheVariants.{Left, Right}
 use Rattle.arrival_core.specs.declared.terrains.Terrain.{Terrain}
-use Rattle.arrival_core.specs.Frames.{Frame, live_at, packet_at}
+use Rattle.arrival_core.specs.Frames.{Frame, live_at}
 use Rattle.arrival_core.specs.Settings.{Setting, setting, frame_of, batch_count}
 use Rattle.arrival_core.specs.Tasks.{IsTask, FitsButFor}
-use Rattle.box_handoff.specs.declared.slots.SlotPacket.{SlotPacket}
 use Rattle.box_handoff.specs.declared.views.Given.{Given}
 use Rattle.box_handoff.specs.declared.laying.Moves.{Moves}
 use Rattle.box_handoff.specs.declared.laying.Laid.{Laid}
-use Rattle.box_handoff.specs.Starting.{start_word, start_slot}
+use Rattle.box_handoff.specs.Starting.{start_word}
 
 -- the machine's setting, its frame, and the core's name for what it is made from
 abbrev pub setting_over : Moves → Setting
@@ -31,6 +30,7 @@ given_over m spots = record {
   live = m.live.now;
   seats = m.seats;
   spots = spots;
+  tree = Some m.tree.now;
 }
 
 -- what the machine may be set to, with seats for its workers, over a tree that is fitted where nothing is live
@@ -40,18 +40,12 @@ pub record AreMoves (m : Moves) : Type 0 where
   pub few : m.seats ≤ MOST_WORKERS
   pub rest : FitsButFor m.tree.now m.boxes.now m.live.now
 
--- the words of nodes with these splits, and their slots
+-- the words of nodes with these splits
 unfoldable pub words_of : Frame → List ℕ → List ℕ
 words_of f [] = []
 words_of f (t ∷ ts) = start_word (live_at f t Left) (live_at f t Right) ∷ words_of f ts
-
-unfoldable pub slots_of : Frame → List ℕ → List SlotPacket
-slots_of f [] = []
-slots_of f (t ∷ ts) = start_slot Left (live_at f t Left) (packet_at f t Left)
-    ∷ start_slot Right (live_at f t Right) (packet_at f t Right) ∷ slots_of f ts
 
 -- nodes with these splits were laid down
 pub record Added (f : Frame) (old new : Laid) (splits : List ℕ) : Type 0 where
   pub spots : new.spots.items ≡ old.spots.items ++ splits
   pub words : new.words.items ≡ old.words.items ++ words_of f splits
-  pub slots : new.slots.items ≡ old.slots.items ++ slots_of f splits

@@ -8,6 +8,7 @@ pub mod Slots
 pub mod Rule
 pub mod Starting
 pub mod Laying
+pub mod Resting
 pub mod Plays
 pub mod Cuts
 pub mod Made

@@ -1,10 +1,21 @@
 -- The live inner nodes, by their splits. Public contracts cite it.
-use Rattle.std.specs.Prelude.{ℕ, suc, zero, true, ◌≡◌, ◌<◌, if◌then◌else◌, List, [], ◌∷◌, Option, Some, None}
-use Rattle.arrival_core.specs.Frames.{Frame}
+use Rattle.std.specs.Prelude.{ℕ, suc, zero, Bool, true, false, ◌≡◌, ◌<◌, if◌then◌else◌, List, [], ◌∷◌, Option, Some, None}
+use Rattle.arrival_core.specs.declared.packets.Side.{Side}
+use Rattle.arrival_core.specs.Frames.{Frame, Below}
+use Rattle.arrival_core.specs.Frames.Below.{leaf, inner}
 
 -- the node is one of the tree, and live
 abbrev pub Shown : Frame → ℕ → Type 0
 Shown f t = (t < f.nodes) × (f.live_node t ≡ true)
+
+-- whether what stands there has a slot: a live inner node has, and nothing else
+unfoldable pub slot_below : Frame → Below → Bool
+slot_below f (leaf p) = false
+slot_below f (inner t) = f.live_node t
+
+-- whether the child on a side of a node has a slot
+unfoldable pub slotted : Frame → ℕ → Side → Bool
+slotted f s d = slot_below f (f.child s d)
 
 -- the live ones of so many splits, from a split on
 unfoldable pub live_splits : Frame → ℕ → ℕ → List ℕ

@@ -1,5 +1,5 @@
 -- What a handoff's table has to do with what it was made of.
-use Rattle.std.specs.Prelude.{ℕ, ◌≡◌, ◌<◌, ◌+◌, ◌*◌, ◌^◌, List, length, slice_index_or}
+use Rattle.std.specs.Prelude.{ℕ, ◌≡◌, ◌<◌, ◌+◌, ◌^◌, List, length, slice_index_or}
 use Rattle.atomic_table.specs.Seated.{TableId}
 use Rattle.arrival_core.specs.Frames.{Frame}
 use Rattle.std.specs.declared.snapshot.Snapshot.{Snapshot}
@@ -7,12 +7,12 @@ use Rattle.box_handoff.specs.declared.views.Given.{Given}
 use Rattle.box_handoff.specs.declared.views.About.{About}
 use Rattle.box_handoff.specs.Entries.{Numbers, IsGiven, frame, given_of, numbers}
 
--- the table's key is what it was made of, and it has a word for each batch and each live node, and two slots for
--- each live node
+-- the table's key is what it was made of, and it has a word for each batch and each live node, and a slot before,
+-- between and behind the live nodes
 pub record IsMade (key about : About) (z : TableId) : Type 0 where
   pub key_is : key ≡ about
   pub words : z.words ≡ (frame (given_of about)).batches + (numbers (given_of about)).count
-  pub slots : z.slots ≡ 2 * (numbers (given_of about)).count
+  pub slots : z.slots ≡ (numbers (given_of about)).count + 1
   pub room : z.words < 2 ^ 60
   pub given : IsGiven (given_of about)
 

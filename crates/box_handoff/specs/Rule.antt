@@ -1,5 +1,5 @@
 -- The rule of the table: the words, the places at home and the entries of all views show one lawful state.
-use Rattle.std.specs.Prelude.{ℕ, ◌≡◌, ◌+◌, ◌*◌, ◌<◌, ◌==◌, ◌⊎◌, Bool, [], List, length, slice_index}
+use Rattle.std.specs.Prelude.{ℕ, ◌≡◌, ◌+◌, ◌<◌, ◌==◌, ◌&&◌, ◌⊎◌, Bool, true, false, not, [], List, length, slice_index}
 use Rattle.std.specs.Int.{bit_at}
 use mathlib.Core.Option.{Option as Maybe, none, some}
 use lib.ListN.{get_elem?}
@@ -16,12 +16,12 @@ use Rattle.arrival_core.specs.States.{Worker}
 use Rattle.arrival_core.specs.Start.{fresh}
 use Rattle.arrival_core.specs.Lawful.{IsLawful}
 use Rattle.box_handoff.specs.declared.slots.SlotPacket.{SlotPacket}
-use Rattle.box_handoff.specs.declared.words.TheConstants.{CLAIMED, OPENED, ARRIVED, COLLECTED, RETURNED}
+use Rattle.box_handoff.specs.declared.words.TheConstants.{CLAIMED, OPENED, ARRIVED, COLLECTED, RETURNED, HANDED}
 use Rattle.box_handoff.specs.declared.views.Given.{Given}
 use Rattle.box_handoff.specs.declared.views.Entry.{Entry}
 use Rattle.box_handoff.specs.declared.views.View.{View}
 use Rattle.box_handoff.specs.Slots.{packed, blank}
-use Rattle.box_handoff.specs.LiveNodes.{Shown}
+use Rattle.box_handoff.specs.LiveNodes.{Shown, slotted}
 use Rattle.box_handoff.specs.Entries.{Numbers, IsGiven, IsNumbered, numbers, frame, after_all, worker_of, total, times, In}
 
 -- the bit of the word says yes
@@ -32,9 +32,21 @@ abbrev pub side_no : Side → ℕ
 side_no Left = 0
 side_no Right = 1
 
--- the slot of a side of a node
+-- the slot of a child: the one before its parent's number, or the one behind it
 abbrev pub slot : ℕ → Side → ℕ
-slot t d = 2 * t + side_no d
+slot t d = t + side_no d
+
+-- the first of the two bits for the sides that are opened, by whether the child has a slot
+abbrev pub opened_bit : Bool → ℕ
+opened_bit true = HANDED
+opened_bit false = OPENED
+
+-- the sides that are opened for a child that has a slot, and those for one that has none
+abbrev pub by_slot : Frame → (ℕ → Side → Bool) → ℕ → Side → Bool
+by_slot f bits t d = bits t d && slotted f t d
+
+abbrev pub by_word : Frame → (ℕ → Side → Bool) → ℕ → Side → Bool
+by_word f bits t d = bits t d && not (slotted f t d)
 
 -- the word of a node, behind those of the batches
 abbrev pub node_word : Frame → Numbers → List ℕ → ℕ → ℕ
@@ -57,16 +69,18 @@ pub data ShowsPlace (d : Side) : Maybe SlotPacket → Place → Type 0 where
   empty : ShowsPlace d (some blank) Nothing
   full : (p : Packet) → ShowsPlace d (some (packed d p)) (Holds p)
 
+-- the slots show the places of the children that have one
 abbrev pub ShowsPlaces : Frame → Numbers → List (Maybe SlotPacket) → (ℕ → Side → Place) → Type 0
-ShowsPlaces f num homes places = (t : ℕ) (d : Side) → Shown f t →
+ShowsPlaces f num homes places = (t : ℕ) (d : Side) → Shown f t → slotted f t d ≡ true →
     (h : Maybe SlotPacket) × (get_elem? homes (slot (num.number t) d) ≡ some h) × ShowsPlace d h (places t d)
 
 pub record Shows (f : Frame) (num : Numbers) (words : List ℕ) (homes : List (Maybe SlotPacket))
     (m : machine.State) : Type 0 where
   pub word_count : length words ≡ f.batches + num.count
-  pub slot_count : length homes ≡ 2 * num.count
+  pub slot_count : length homes ≡ num.count + 1
   pub claims : ShowsBatch f words m.claimed
-  pub opened : ShowsSide f num words OPENED m.opened
+  pub opened : ShowsSide f num words OPENED (by_word f m.opened)
+  pub handed : ShowsSide f num words HANDED (by_slot f m.opened)
   pub arrived : ShowsSide f num words ARRIVED m.arrived
   pub collected : ShowsSide f num words COLLECTED m.collected
   pub returned : ShowsNode f num words RETURNED m.returned

@@ -7,10 +7,11 @@ ghost use Rattle.radix_tree.specs.Table.{IsTable};
 ghost use Rattle.radix_tree.specs.Fit.{IsFitted, table_of};
 ghost use Rattle.arrival_core.specs.Tasks.{IsWhole};
 ghost use Rattle.box_handoff.specs.Entries.{IsGiven, given_of, setting_of, numbers};
-ghost use Rattle.box_handoff.specs.Gathering.{IsTaking};
+ghost use Rattle.box_handoff.specs.Gathering.{AreFlags, IsTaking};
 ghost use Rattle.box_handoff.specs.Packets.{AreFitted, over_keys};
 ghost use Rattle.box_handoff.specs.Assembling.{row, PutsChild, PutsRoot, PutsRows};
 
+use crate::climbing::batches_of;
 use crate::gathering::take_pair;
 use crate::slots::SlotPacket;
 use crate::views::About;
@@ -93,14 +94,17 @@ pub fn write_out(
 ) -> Vec<Node>
     requires given { IsGiven (given_of about.now) }
     requires whole { IsWhole (setting_of (given_of about.now)) }
+    requires flags { AreFlags (given_of about.now) closed.words.items closed.words.filled closed.words.len }
     requires taking { IsTaking (given_of about.now) closed.slots.items closed.slots.filled closed.slots.len 0 }
     requires room { length nodes.items ≡ (numbers (given_of about.now)).count }
     ensures table { IsTable (over_keys about.now.keys.now result.items) }
     ensures fitted { IsFitted (over_keys about.now.keys.now result.items) about.now.boxes.now }
     ensures value { result.items ≡ table_of about.now.keys.now about.now.boxes.now }
 {
+    let base = batches_of(about);
+    let mut here = closed.take(0);
     for t in 0..nodes.len() {
-        let (left, right) = take_pair(&mut closed, about, t);
+        let (left, right) = take_pair(&mut closed, &mut here, about, base, t);
         put_rows(&mut nodes, t, &left, &right);
     }
     closed.free();

@@ -4,7 +4,6 @@ ghost use Rattle.box_handoff.specs.Made.{given_in, frame_in, numbers_in};
 ghost use Rattle.box_handoff.specs.Entries.{IsGiven, numbers, frame, given_of, one, worker_of};
 ghost use Rattle.box_handoff.specs.Plays.{mine, IsSmall};
 ghost use Rattle.box_handoff.specs.Climbs.{Climbed, IsCarried, Working};
-ghost use Rattle.morton_key.specs.Keys.{IsLawful};
 ghost use Rattle.arrival_core.specs.Frames.{other, packet_at};
 ghost use Rattle.arrival_core.specs.Events.{resume, join};
 ghost use Rattle.arrival_core.specs.Start.{fresh};
@@ -12,13 +11,13 @@ ghost use Rattle.arrival_core.specs.declared.packets.Phase.TheVariants.{Looking,
 
 use crate::passing::pass_node;
 use crate::plays::{HandTable, TableSeat};
+use crate::resting::leaf_packet;
 use crate::steps::take;
 use crate::views::About;
 use crate::ways::Ways;
-use crate::{Load, Packet, Tally};
+use crate::{Load, Tally};
 use arrival_core::{BATCH, Up};
 use outside::Gate;
-use radix_tree::box_at;
 
 /// How many batches of leaves there are.
 pub fn batches_of(about: &About<'_>) -> usize
@@ -74,22 +73,6 @@ pub fn carry_up<W: Ways>(
                 };
             }
         }
-    }
-}
-
-/// The packet of the leaf at a position.
-fn leaf_packet(about: &About<'_>, position: u32) -> Packet
-    requires lawful { IsLawful about.now.keys.now }
-    requires boxes { length about.now.boxes.now ≡ length about.now.keys.now }
-    requires within { position < length about.now.keys.now }
-    ensures { result ≡ (frame (given_of about.now)).leaf_packet position }
-{
-    let fit = box_at(about.keys, about.boxes, position as usize);
-    Packet {
-        first: position,
-        last: position,
-        split: position,
-        fit,
     }
 }
 

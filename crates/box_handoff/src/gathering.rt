@@ -3,20 +3,25 @@ ghost use Rattle.std.specs.Prelude.{◌≡◌, ◌<◌, ◌+◌, ◌*◌, ◌≤
 ghost use Rattle.arrival_core.specs.declared.packets.Side.TheVariants.{Left, Right};
 ghost use Rattle.arrival_core.specs.declared.packets.TheConstants.{MOST_WORKERS};
 ghost use Rattle.box_handoff.specs.Made.{given_in};
-ghost use Rattle.box_handoff.specs.LiveNodes.{splits_of};
+ghost use Rattle.box_handoff.specs.LiveNodes.{slotted, splits_of};
 ghost use Rattle.box_handoff.specs.Entries.{IsGiven, frame, numbers, given_of};
 ghost use Rattle.box_handoff.specs.Packets.{ArePacketsOf, child_packet};
+ghost use Rattle.arrival_core.specs.Frames.{packet_at};
+ghost use Rattle.box_handoff.specs.Slots.{packed};
 ghost use Rattle.box_handoff.specs.Plays.{IsSmall};
 ghost use Rattle.box_handoff.specs.Seats.{seat_fits, seat_steps, given_by, setting_by, AreAll, IsSumOf};
 ghost use Rattle.box_handoff.specs.Counts.{IsLiveCounted};
-ghost use Rattle.box_handoff.specs.Gathering.{HasEnded, Covers, AllEnded, AreKept, IsTaking, fits_of, steps_of};
+ghost use Rattle.box_handoff.specs.Gathering.{HasEnded, Covers, AllEnded, AreFlags, IsTaking, HasBefore, fits_of, steps_of};
 
+use crate::climbing::batches_of;
 use crate::handoffs::Handoff;
 use crate::numbering::spot_of;
 use crate::plays::{Gathers, HandTable, TableSeat};
+use crate::resting::told;
 use crate::seats::HandSeat;
 use crate::slots::{SlotPacket, unpack};
 use crate::views::About;
+use crate::words::{HANDED, bit_of, is_set};
 use crate::{Packet, Side, Tally};
 use atomic_table::Closed;
 use std::alloc::Global;
@@ -72,6 +77,8 @@ pub fn finish<'a>(
     ensures about { result.1 ≡ handoff.entry.about }
     ensures taking { let slots = result.0.slots in
         IsTaking (given_by handoff.entry) slots.items slots.filled slots.len 0 }
+    ensures flags { let words = result.0.words in
+        AreFlags (given_by handoff.entry) words.items words.filled words.len }
     ensures sum { IsSumOf seats.items result.2 }
     ensures live_counts { IsLiveCounted (setting_by handoff.entry) result.2 }
 {
@@ -89,26 +96,64 @@ pub fn finish<'a>(
     (table.close_with(seat), about, tally)
 }
 
-/// Takes the packets of both children of the live node of a number out of a closed table.
+/// The packet of a child of the node with that split: what its slot keeps, or told without one.
+fn read_child(about: &About<'_>, split: u32, side: Side, handed: bool, kept: &SlotPacket) -> Packet
+    requires given { IsGiven (given_of about.now) }
+    requires within { split < (frame (given_of about.now)).nodes }
+    requires handed { handed ≡ slotted (frame (given_of about.now)) split side }
+    requires kept { handed ≡ true → kept.now ≡ packed side (packet_at (frame (given_of about.now)) split side) }
+    ensures { result ≡ child_packet about.now.keys.now about.now.boxes.now split side }
+{
+    if handed {
+        unpack(split, side, kept)
+    } else {
+        told(about, split, side)
+    }
+}
+
+/// Takes the packets of both children of the live node of a number out of a closed table. The slot before the node is out
+/// already, and the one behind it is taken out, to be the one before the next node.
 pub fn take_pair(
     closed: &mut Closed<SlotPacket, Global>,
+    here: &mut SlotPacket,
     about: &About<'_>,
+    base: usize,
     place: usize,
 ) -> (Packet, Packet)
     requires given { IsGiven (given_of about.now) }
+    requires flags { let words = closed.old.words in
+        AreFlags (given_of about.now) words.items words.filled words.len }
     requires taking { let slots = closed.old.slots in
-        IsTaking (given_of about.now) slots.items slots.filled slots.len place }
+        HasBefore (given_of about.now) slots.items slots.filled slots.len place here.old }
+    requires base { base ≡ (frame (given_of about.now)).batches }
     requires within { place < (numbers (given_of about.now)).count }
+    ensures flags { closed.new.words ≡ closed.old.words }
     ensures taking { let slots = closed.new.slots in
-        IsTaking (given_of about.now) slots.items slots.filled slots.len (place + 1) }
+        HasBefore (given_of about.now) slots.items slots.filled slots.len (place + 1) here.new }
     ensures left { result.0 ≡ child_packet about.now.keys.now about.now.boxes.now
         (slice_index (splits_of (frame (given_of about.now))) place) Left }
     ensures right { result.1 ≡ child_packet about.now.keys.now about.now.boxes.now
         (slice_index (splits_of (frame (given_of about.now))) place) Right }
 {
     let split = spot_of(about, place);
-    let left = unpack(split, Side::Left, &closed.take(2 * place));
-    let right = unpack(split, Side::Right, &closed.take(2 * place + 1));
+    let word = closed.word(base + place);
+    let before = *here;
+    let behind = closed.take(place + 1);
+    *here = behind;
+    let left = read_child(
+        about,
+        split,
+        Side::Left,
+        is_set(word, bit_of(HANDED, Side::Left)),
+        &before,
+    );
+    let right = read_child(
+        about,
+        split,
+        Side::Right,
+        is_set(word, bit_of(HANDED, Side::Right)),
+        &behind,
+    );
     (left, right)
 }
 
@@ -121,6 +166,7 @@ pub fn read_out(
     about: &About<'_>,
 ) -> (Vec<Packet>, Vec<Packet>)
     requires given { IsGiven (given_of about.now) }
+    requires flags { AreFlags (given_of about.now) closed.words.items closed.words.filled closed.words.len }
     requires taking { IsTaking (given_of about.now) closed.slots.items closed.slots.filled closed.slots.len 0 }
     requires count { count ≡ (numbers (given_of about.now)).count }
     requires left_empty { left.items ≡ [] }
@@ -132,8 +178,10 @@ pub fn read_out(
     ensures right { ArePacketsOf about.now.keys.now about.now.boxes.now (splits_of (frame (given_of about.now))) Right
         (length (splits_of (frame (given_of about.now)))) result.1.items }
 {
+    let base = batches_of(about);
+    let mut here = closed.take(0);
     for i in 0..count {
-        let (on_left, on_right) = take_pair(&mut closed, about, i);
+        let (on_left, on_right) = take_pair(&mut closed, &mut here, about, base, i);
         left.push_reserved(on_left);
         right.push_reserved(on_right);
     }

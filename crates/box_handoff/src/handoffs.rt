@@ -7,10 +7,10 @@ use atomic_table::Table;
 use std::alloc::Global;
 use std::snapshot::Snapshot;
 
-/// One fitting run: a word for each batch of live leaves and for each live inner node, and two slots for each live
-/// inner node.
+/// One fitting run: a word for each batch of live leaves and for each live inner node, and a slot before, between and
+/// behind the live inner nodes.
 ///
-/// It lends the keys and the boxes. Threads share it; each climbs with a seat of its own.
+/// It lends the keys and the boxes, and the tree in which what is not live rests. Threads share it; each climbs with a seat of its own.
 #[derive(Drop)]
 pub struct Handoff<'a> {
     pub(crate) table: Table<SlotPacket, View, Snapshot<About<'a>>, Arrival, Global>,

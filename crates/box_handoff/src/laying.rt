@@ -1,4 +1,4 @@
-//! What a table starts with that has words and slots for the live nodes alone.
+//! What a table starts with that has words for the live nodes alone.
 //!
 //! A walk down from the root goes no farther than the live nodes and their children. It meets the nodes in the order of
 //! their splits: all on the left of a node have smaller ones, and all on its right larger ones.
@@ -9,18 +9,15 @@ ghost use Rattle.radix_tree.specs.Filling.{IsChild};
 ghost use Rattle.arrival_core.specs.declared.packets.TheConstants.{MOST_WORKERS};
 ghost use Rattle.arrival_core.specs.Settings.{setting, live_in, batch_count};
 ghost use Rattle.arrival_core.specs.Tasks.{IsTask, FitsButFor};
-ghost use Rattle.arrival_core.specs.Terrains.{table_packet};
 ghost use Rattle.box_handoff.specs.LiveNodes.{live_splits, splits_of};
-ghost use Rattle.box_handoff.specs.Starting.{start_word, start_slot};
-ghost use Rattle.box_handoff.specs.Laying.{AreMoves, Added, over, terrain_of, words_of, slots_of};
+ghost use Rattle.box_handoff.specs.Starting.{start_word};
+ghost use Rattle.box_handoff.specs.Laying.{AreMoves, Added, over, words_of};
 
 use crate::making::zeros;
-use crate::slots::{SlotPacket, blank_slot, pack};
-use crate::{Packet, Side};
 use arrival_core::BATCH;
 use fixed_box::Box3;
 use outside::Memory;
-use radix_tree::{Child, Node, Tree, box_at, left, right};
+use radix_tree::{Child, Node, Tree, left, right};
 use std::alloc::Global;
 
 /// A tree, the boxes of its triangles now, and the positions of those that may have changed, for so many seats.
@@ -32,16 +29,15 @@ pub struct Moves<'a> {
     pub seats: u32,
 }
 
-/// What is laid down: the split of each live node, the words, and the slots.
+/// What is laid down: the split of each live node, and the words.
 #[derive(Drop)]
 pub struct Laid {
     pub spots: Vec<u32>,
     pub words: Vec<u64>,
-    pub slots: Vec<SlotPacket>,
 }
 
 /// The node of that number.
-fn node_of(tree: &Tree, number: u32) -> Node
+pub fn node_of(tree: &Tree, number: u32) -> Node
     requires { number < length tree.now.nodes }
     ensures { result ≡ node_at tree.now.nodes number }
 {
@@ -60,46 +56,6 @@ fn is_live(live: &[u32], first: u32, last: u32) -> bool
     live[at] <= last
 }
 
-/// The packet of a child, as the tree has it.
-fn packet_of(m: &Moves<'_>, child: Child) -> Packet
-    requires moves { AreMoves m.now }
-    requires child { IsChild m.now.tree.now child }
-    ensures { result ≡ table_packet (terrain_of m.now) child }
-{
-    match child {
-        Child::Leaf(position) => {
-            let fit = box_at(m.tree.keys(), m.boxes, position as usize);
-            Packet {
-                first: position,
-                last: position,
-                split: position,
-                fit,
-            }
-        }
-        Child::Inner(number) => {
-            let node = node_of(m.tree, number);
-            Packet {
-                first: node.first,
-                last: node.last,
-                split: node.split,
-                fit: node.fit,
-            }
-        }
-    }
-}
-
-/// The slot of a child as it starts.
-fn slot_of_child(m: &Moves<'_>, side: Side, live: bool, child: Child) -> SlotPacket
-    requires moves { AreMoves m.now }
-    requires child { IsChild m.now.tree.now child }
-    ensures { result ≡ start_slot side live (table_packet (terrain_of m.now) child) }
-{
-    if live {
-        return blank_slot();
-    }
-    pack(side, &packet_of(m, child))
-}
-
 /// The word of a live node as it starts, by whether its children are live: one that is not is opened and has arrived.
 fn word_of(left: bool, right: bool) -> u64
     ensures { result ≡ start_word left right }
@@ -113,27 +69,14 @@ fn word_of(left: bool, right: bool) -> u64
 }
 
 /// Puts a node behind what is laid down.
-fn push(
-    laid: &mut Laid,
-    split: u32,
-    word: u64,
-    first: SlotPacket,
-    second: SlotPacket,
-) -> Result<(), Memory>
+fn push(laid: &mut Laid, split: u32, word: u64) -> Result<(), Memory>
     ensures spots { IfOk result (λ _. laid.new.spots.items ≡ laid.old.spots.items ++ split ∷ []) }
     ensures words { IfOk result (λ _. laid.new.words.items ≡ laid.old.words.items ++ word ∷ []) }
-    ensures slots { IfOk result (λ _. laid.new.slots.items ≡ laid.old.slots.items ++ first ∷ second ∷ []) }
 {
     let Ok(()) = laid.spots.push(split) else {
         return Err(Memory);
     };
     let Ok(()) = laid.words.push(word) else {
-        return Err(Memory);
-    };
-    let Ok(()) = laid.slots.push(first) else {
-        return Err(Memory);
-    };
-    let Ok(()) = laid.slots.push(second) else {
         return Err(Memory);
     };
     Ok(())
@@ -148,9 +91,7 @@ fn lay_node(m: &Moves<'_>, number: u32, node: &Node, laid: &mut Laid) -> Result<
 {
     let on_left = is_live(m.live, node.first, node.split);
     let on_right = is_live(m.live, node.split + 1, node.last);
-    let first = slot_of_child(m, Side::Left, on_left, left(m.tree, number));
-    let second = slot_of_child(m, Side::Right, on_right, right(m.tree, number));
-    push(laid, node.split, word_of(on_left, on_right), first, second)
+    push(laid, node.split, word_of(on_left, on_right))
 }
 
 /// Lays down the live nodes of the subtree of a child, in the order of their splits.
@@ -172,17 +113,16 @@ fn lay_under(m: &Moves<'_>, child: Child, laid: &mut Laid) -> Result<(), Memory>
     lay_under(m, right(m.tree, number), laid)
 }
 
-/// The live nodes of a tree, with their words behind those of the batches, and their slots.
+/// The live nodes of a tree, with their words behind those of the batches.
 pub fn lay_down(alloc: Global, m: &Moves<'_>) -> Result<Laid, Memory>
     requires moves { AreMoves m.now }
     ensures spots { IfOk result (λ l. l.spots.items ≡ splits_of (over m.now)) }
-    ensures words { IfOk result (λ l. l.words.items ≡ replicate (batch_count m.now.live.now) 0 ++ words_of (over m.now) (splits_of (over m.now))) }
-    ensures slots { IfOk result (λ l. l.slots.items ≡ slots_of (over m.now) (splits_of (over m.now))) }
+    ensures words { IfOk result (λ l. l.words.items ≡
+        replicate (batch_count m.now.live.now) 0 ++ words_of (over m.now) (splits_of (over m.now))) }
 {
     let mut laid = Laid {
         spots: Vec::new(alloc),
         words: zeros(alloc, m.live.len().div_ceil(BATCH))?,
-        slots: Vec::new(alloc),
     };
     lay_under(m, Child::Inner(0), &mut laid)?;
     Ok(laid)

@@ -13,6 +13,7 @@ mod making;
 mod numbering;
 mod passing;
 mod plays;
+mod resting;
 mod seats;
 mod slots;
 mod steps;

@@ -20,7 +20,7 @@ use crate::laying::{Laid, Moves, lay_down};
 use crate::plays::{HandTable, Parts, TableSeat};
 use crate::seats::HandSeat;
 use crate::slots::{SlotPacket, blank_slot};
-use crate::views::About;
+use crate::views::{About, Spots};
 use atomic_table::Table;
 use fixed_box::Box3;
 use morton_key::Key;
@@ -69,6 +69,7 @@ pub fn whole<'a>(
     requires few { seats ≤ MOST_WORKERS }
     ensures whole { IfOk result (λ a. IsWhole (setting_of (given_of a))) }
     ensures spots { IfOk result (λ a. (given_of a).spots ≡ None) }
+    ensures tree { IfOk result (λ a. (given_of a).tree ≡ None) }
     ensures keys { IfOk result (λ a. a.keys.now ≡ keys.now) }
     ensures boxes { IfOk result (λ a. a.boxes.now ≡ boxes.now) }
     ensures seats { IfOk result (λ a. a.seats ≡ seats) }
@@ -108,6 +109,7 @@ pub fn make<'a>(
 pub fn make_whole<'a>(alloc: Global, about: About<'a>) -> Result<(Handoff<'a>, TableSeat), Memory>
     requires whole { IsWhole (setting_of (given_of about)) }
     requires spots { (given_of about).spots ≡ None }
+    requires tree { (given_of about).tree ≡ None }
     ensures made { IfOk result (λ r. IsHandoff r.0) }
     ensures about { IfOk result (λ r. r.0.about ≡ about.entry) }
     ensures seat { IfOk result (λ r. (r.1.table_id ≡ id_of r.0) × (r.1.me ≡ (first_view (given_of about.entry), []))) }
@@ -115,7 +117,7 @@ pub fn make_whole<'a>(alloc: Global, about: About<'a>) -> Result<(Handoff<'a>, T
     let batches = batches_of(&about);
     let nodes = about.keys.len() - 1;
     let words = zeros(alloc, batches + nodes)?;
-    let slots = blank_slots(alloc, 2 * nodes)?;
+    let slots = blank_slots(alloc, nodes + 1)?;
     make(alloc, about, words, slots)
 }
 
@@ -141,11 +143,8 @@ pub fn make_live<'a>(
         live,
         seats,
     };
-    let Laid {
-        spots,
-        words,
-        slots,
-    } = lay_down(alloc, &moves)?;
+    let Laid { spots, words } = lay_down(alloc, &moves)?;
+    let slots = blank_slots(alloc, spots.len() + 1)?;
     let Ok(live) = Vec::from_slice(alloc, live) else {
         return Err(Memory);
     };
@@ -154,7 +153,10 @@ pub fn make_live<'a>(
         boxes,
         live,
         seats,
-        spots: Some(spots),
+        spots: Some(Spots {
+            splits: spots,
+            tree,
+        }),
     };
     let (handoff, seat) = make(alloc, about, words, slots)?;
     Ok((handoff, seat))

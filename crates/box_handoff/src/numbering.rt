@@ -1,4 +1,4 @@
-//! The numbers of live nodes among those that have a word and two slots.
+//! The numbers of live nodes among those that have a word.
 ghost use Rattle.std.specs.Prelude.{◌≡◌, ◌<◌, ◌^◌, AllPairs, length, slice_index};
 ghost use Rattle.box_handoff.specs.LiveNodes.{Shown, splits_of};
 ghost use Rattle.box_handoff.specs.Entries.{IsGiven, frame, given_of, numbers, place_in};
@@ -13,7 +13,7 @@ pub fn count_of(about: &About<'_>) -> usize
 {
     match &about.spots {
         None => about.keys.len() - 1,
-        Some(spots) => spots.len(),
+        Some(spots) => spots.splits.len(),
     }
 }
 
@@ -35,7 +35,7 @@ pub fn place_of(about: &About<'_>, split: u32) -> usize
 {
     match &about.spots {
         None => split as usize,
-        Some(spots) => find(spots.as_slice(), split),
+        Some(spots) => find(spots.splits.as_slice(), split),
     }
 }
 
@@ -47,6 +47,6 @@ pub fn spot_of(about: &About<'_>, place: usize) -> u32
 {
     match &about.spots {
         None => place as u32,
-        Some(spots) => spots[place],
+        Some(spots) => spots.splits[place],
     }
 }

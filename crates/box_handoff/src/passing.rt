@@ -1,20 +1,22 @@
 //! One passage of a node. Who comes first leaves its packet there; who comes second finds it, and takes the node's
 //! packet away.
-ghost use Rattle.std.specs.Prelude.{◌≡◌, ◌<◌, ◌+◌, ◌^◌, ◌∷◌, [], true, false, IfNone, IfSome};
+ghost use Rattle.std.specs.Prelude.{◌≡◌, ◌<◌, ◌≤◌, ◌+◌, ◌^◌, [], true, false, IfNone, IfSome};
 ghost use Rattle.arrival_core.specs.Events.{join};
 ghost use Rattle.arrival_core.specs.Frames.{other, packet_at};
 ghost use Rattle.arrival_core.specs.declared.packets.Phase.TheVariants.{Carry, Second};
+ghost use Rattle.box_handoff.specs.LiveNodes.{slotted};
 ghost use Rattle.box_handoff.specs.Rule.{slot};
 ghost use Rattle.box_handoff.specs.Slots.{packed};
 ghost use Rattle.box_handoff.specs.Made.{given_in, frame_in, numbers_in};
 ghost use Rattle.box_handoff.specs.Entries.{IsGiven, one, worker_of};
-ghost use Rattle.box_handoff.specs.Plays.{mine, IsSmall};
+ghost use Rattle.box_handoff.specs.Plays.{mine, IsSmall, lent};
 ghost use Rattle.box_handoff.specs.Climbs.{Climbed, IsCarried, came_first, finds_other, leaves_with, came_second};
 
 use crate::numbering::place_of;
 use crate::plays::{HandTable, TableSeat};
+use crate::resting::told;
 use crate::slots::unpack;
-use crate::steps::{across, arrive, collect, leave, look, open, put, slot_of};
+use crate::steps::{Opposite, across, arrive, collect, leave, look, open, put, slot_of};
 use crate::views::About;
 use crate::{Load, Packet, Side};
 use fixed_box::union;
@@ -39,14 +41,22 @@ fn joined(load: &Load, found: &Packet) -> Packet
     }
 }
 
-/// Leaves a load's packet at its node. The answer is whether the other side had arrived before.
+/// Whether the child whose packet a worker carries has a slot: it is live, so it has one if it is an inner node.
+fn is_inner(packet: &Packet) -> bool
+    ensures yes { result ≡ true → packet.now.first < packet.now.last }
+    ensures no { result ≡ false → packet.now.last ≤ packet.now.first }
+{
+    packet.first < packet.last
+}
+
+/// Leaves a load's packet at its node. The answer is what is found of the other side.
 fn come(
     table: &HandTable<'_>,
     about: &About<'_>,
     seat: &mut TableSeat,
     base: usize,
     load: &Load,
-) -> bool
+) -> Opposite
     requires key { table.now.key.value ≡ about.now }
     requires table { seat.old.table_id ≡ table.now.table_id }
     requires words { let f = frame_in table.now.key in (base ≡ f.batches)
@@ -59,24 +69,34 @@ fn come(
     requires given { IsGiven (given_in table.now.key) }
     ensures climbed { Climbed (given_in table.now.key) seat.old seat.new }
     ensures small { IsSmall (mine seat.old.me).tally }
-    ensures first { result ≡ false →
+    ensures other { result.arrived ≡ true →
+        result.handed ≡ slotted (frame_in table.now.key) load.now.split (other load.now.side) }
+    ensures first { result.arrived ≡ false →
         worker_of (mine seat.new.me) ≡ came_first (frame_in table.now.key) (mine seat.old.me) }
-    ensures second { result ≡ true → worker_of (mine seat.new.me) ≡ finds_other load.now (mine seat.old.me) }
+    ensures second { result.arrived ≡ true → worker_of (mine seat.new.me) ≡ finds_other load.now (mine seat.old.me) }
 {
     let place = place_of(about, load.split);
-    open(table, seat, base, place, load);
-    put(table, seat, place, load);
-    arrive(table, seat, base, place, load)
+    let handed = is_inner(&load.packet);
+    open(table, seat, base, place, load, handed);
+    put(table, seat, place, load, handed);
+    arrive(table, seat, base, place, load, handed)
 }
 
-/// What the other side left in its place, which is out with the seat.
-fn found_there(table: &HandTable<'_>, seat: &mut TableSeat, place: usize, load: &Load) -> Packet
+/// The packet of the other side's child: what stands in its slot, which is out with the seat, or is told without one.
+fn found_there(
+    table: &HandTable<'_>,
+    about: &About<'_>,
+    seat: &mut TableSeat,
+    place: usize,
+    load: &Load,
+    handed: bool,
+) -> Packet
+    requires key { table.now.key.value ≡ about.now }
     requires table { seat.old.table_id ≡ table.now.table_id }
     requires room { place < 2 ^ 60 }
-    requires out { seat.old.me.1 ≡ (
-      slot place (other load.now.side),
-      packed (other load.now.side) (packet_at (frame_in table.now.key) load.now.split (other load.now.side)),
-    ) ∷ [] }
+    requires handed { handed ≡ slotted (frame_in table.now.key) load.now.split (other load.now.side) }
+    requires out { seat.old.me.1 ≡ lent handed (slot place (other load.now.side))
+        (packed (other load.now.side) (packet_at (frame_in table.now.key) load.now.split (other load.now.side))) [] }
     requires load { IsCarried (frame_in table.now.key) load.now }
     requires given { IsGiven (given_in table.now.key) }
     ensures table { (seat.new.table_id ≡ seat.old.table_id) × (seat.new.id ≡ seat.old.id) }
@@ -84,6 +104,9 @@ fn found_there(table: &HandTable<'_>, seat: &mut TableSeat, place: usize, load: 
     ensures found { result ≡ packet_at (frame_in table.now.key) load.now.split (other load.now.side) }
 {
     let theirs = across(load.side);
+    if !handed {
+        return told(about, load.split, theirs);
+    }
     let kept = look(table, seat, slot_of(place, theirs));
     unpack(load.split, theirs, &kept)
 }
@@ -95,7 +118,9 @@ fn take_other(
     seat: &mut TableSeat,
     base: usize,
     load: &Load,
+    handed: bool,
 ) -> Packet
+    requires handed { handed ≡ slotted (frame_in table.now.key) load.now.split (other load.now.side) }
     requires key { table.now.key.value ≡ about.now }
     requires table { seat.old.table_id ≡ table.now.table_id }
     requires words { let f = frame_in table.now.key in (base ≡ f.batches)
@@ -112,9 +137,9 @@ fn take_other(
         (worker_of (mine seat.old.me)) }
 {
     let place = place_of(about, load.split);
-    collect(table, seat, base, place, load);
-    let found = found_there(table, seat, place, load);
-    leave(table, seat, base, place, load, &found);
+    collect(table, seat, base, place, load, handed);
+    let found = found_there(table, about, seat, place, load, handed);
+    leave(table, seat, base, place, load, &found, handed);
     found
 }
 
@@ -144,9 +169,10 @@ pub fn pass_node(
     ensures second { IfSome result (λ p.
         worker_of (mine seat.new.me) ≡ came_second (frame_in table.now.key) load.now.split p (mine seat.old.me)) }
 {
-    if !come(table, about, seat, base, load) {
+    let across = come(table, about, seat, base, load);
+    if !across.arrived {
         return None;
     }
-    let found = take_other(table, about, seat, base, load);
+    let found = take_other(table, about, seat, base, load, across.handed);
     Some(joined(load, &found))
 }

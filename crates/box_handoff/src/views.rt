@@ -3,6 +3,7 @@
 use arrival_core::{Phase, Tally};
 use fixed_box::Box3;
 use morton_key::Key;
+use radix_tree::Tree;
 use std::collections::LinkedList;
 
 /// What a worker did, with what the word showed before it.
@@ -21,6 +22,8 @@ pub struct Given {
     pub seats: u64,
     /// The splits of the live nodes, in order. Where there is no list, all nodes are live.
     pub spots: Option<LinkedList<u32>>,
+    /// The tree in which the other nodes rest, where there is such a list.
+    pub tree: Option<Tree>,
 }
 
 pub struct Entry {
@@ -37,6 +40,15 @@ pub struct View {
     pub entries: LinkedList<Entry>,
 }
 
+/// The live nodes of a tree, where not all are live.
+#[derive(Drop)]
+pub struct Spots<'a> {
+    /// Their splits, in order.
+    pub splits: Vec<u32>,
+    /// The tree, in which the others rest.
+    pub tree: &'a Tree,
+}
+
 /// What a handoff keeps of what it was made of.
 #[derive(Drop)]
 pub struct About<'a> {
@@ -44,6 +56,6 @@ pub struct About<'a> {
     pub boxes: &'a [Box3],
     pub live: Vec<u32>,
     pub seats: u32,
-    /// The splits of the live nodes, in order. Where there is no list, all nodes are live.
-    pub spots: Option<Vec<u32>>,
+    /// The live nodes. Where they are not told, all nodes are live.
+    pub spots: Option<Spots<'a>>,
 }

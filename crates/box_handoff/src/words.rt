@@ -1,4 +1,4 @@
-//! The bits of a shared word. A batch's word has one; an inner node's has seven, two of them for each side and kind.
+//! The bits of a shared word. A batch's word has one; an inner node's has nine, two of them for each side and kind.
 ghost use Rattle.std.specs.Prelude.{◌≡◌, ◌<◌, ◌+◌, ◌^◌};
 ghost use Rattle.box_handoff.specs.Rule.{bit_on, side_no};
 
@@ -7,7 +7,7 @@ use crate::Side;
 /// The batch is claimed.
 pub const CLAIMED: u32 = 0;
 
-/// The left side is opened; the next bit is the right side's.
+/// The left side is opened, for a child that has no slot; the next bit is the right side's.
 pub const OPENED: u32 = 0;
 
 /// The child of the left side has arrived; the next bit is the right side's.
@@ -18,6 +18,9 @@ pub const COLLECTED: u32 = 4;
 
 /// The node is fitted, and what it is fitted to is on its way up.
 pub const RETURNED: u32 = 6;
+
+/// The left side is opened, for a child that has a slot; the next bit is the right side's.
+pub const HANDED: u32 = 7;
 
 /// The bit of a side, of the two that begin with a bit.
 pub fn bit_of(first: u32, side: Side) -> u32

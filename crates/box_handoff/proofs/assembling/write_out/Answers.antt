@@ -1,4 +1,8 @@
-use Rattle.std.proofs.Common.{arith, ap, ◌∙◌, ◌<◌, ◌-◌, length}
+use Rattle.std.proofs.Common.{arith, ap, sym, subst, ◌∙◌, ◌<◌, ◌-◌, length}
+use Rattle.box_handoff.specs.Entries.{given_of}
+use Rattle.box_handoff.specs.Gathering.{AreFlags}
+use Rattle.box_handoff.proofs.FrameOf.{live_few}
+use Rattle.box_handoff.proofs.ReadLaws.{has_before}
 use Rattle.arrival_core.specs.declared.packets.Side.TheVariants.{Left, Right}
 use Rattle.radix_tree.proofs.OneTable.{table_is}
 use Rattle.box_handoff.specs.Packets.{child_packet}
@@ -7,11 +11,27 @@ use Rattle.box_handoff.proofs.AssembleLaws.{none_written, rows_written, rows_cou
 use Rattle.box_handoff.proofs.assembling.write_out.Goals as goal
 
 pub loop-t-init : goal.loop-t-init
-loop-t-init c = record {
-  taking = c.requires.taking;
-  count = c.requires.room ∙ whole_count _ c.requires.given c.requires.whole;
-  written = none_written c.args.about.now.keys.now c.requires.whole.lawful c.args.about.now.boxes.now _;
-}
+loop-t-init c = (
+  record {
+    taking = has_before _ _ _ _ _ _ _ _ _ c.requires.taking c.take-here.ensures.others.0 c.take-here.ensures.others.1
+        c.take-here.ensures.others.2 c.take-here.ensures.value;
+    count = c.requires.room ∙ whole_count _ c.requires.given c.requires.whole;
+    written = none_written c.args.about.now.keys.now c.requires.whole.lawful c.args.about.now.boxes.now _;
+  },
+  c.take-here.ensures.others.3,
+)
+
+pub batches_of-base-requires : goal.batches_of-base-requires
+batches_of-base-requires c = let l = live_few _ c.requires.given in omega (arith, l, c.requires.given.task.lawful.few)
+
+pub take-here-requires : goal.take-here-requires
+take-here-requires c =
+    let t = c.requires.taking in
+    (omega (arith, t.places), t.full 0 (omega arith) (omega (arith, t.places)))
+
+pub take_pair-requires-clause-flags : goal.take_pair-requires-clause-flags
+take_pair-requires-clause-flags c = subst (λ w. AreFlags (given_of c.args.about.now) w.items w.filled w.len)
+    (sym c.loop-t.invariant.1) c.requires.flags
 
 pub put_rows-requires-clause-within : goal.put_rows-requires-clause-within
 put_rows-requires-clause-within c = λ less.
@@ -21,32 +41,35 @@ put_rows-requires-clause-within c = λ less.
     let is = c.take_pair.ensures.right
     ∙ ap (λ s. child_packet c.args.about.now.keys.now c.args.about.now.boxes.now s Right)
     (whole_split _ c.requires.given c.requires.whole c.loop-t.t lt) in
-    let r = right_within _ c.requires.whole.lawful _ _ _ lt is less in omega (arith, r, c.loop-t.invariant.count)
+    let r = right_within _ c.requires.whole.lawful _ _ _ lt is less in omega (arith, r, c.loop-t.invariant.0.count)
 
 pub put_rows-requires-clause-few : goal.put_rows-requires-clause-few
-put_rows-requires-clause-few c = omega (arith, c.loop-t.invariant.count, c.requires.whole.lawful.few)
+put_rows-requires-clause-few c = omega (arith, c.loop-t.invariant.0.count, c.requires.whole.lawful.few)
 
 pub loop-t-preserved : goal.loop-t-preserved
 loop-t-preserved c =
     let n = whole_count _ c.requires.given c.requires.whole in
     let lt : c.loop-t.t < length c.args.about.now.keys.now - 1
     = omega (arith, c.loop-t-test.true, c.len-t-end.ensures, c.args.nodes.ok, c.requires.room, n) in
-    let s = whole_split _ c.requires.given c.requires.whole c.loop-t.t lt in record {
-      taking = c.take_pair.ensures.taking;
-      count = rows_count _ _ c.loop-t.t c.take_pair.result.0 c.take_pair.result.1 c.put_rows.ensures
-          ∙ c.loop-t.invariant.count;
-      written = rows_written _ c.requires.whole.lawful _ _ lt c.take_pair.result.0 c.take_pair.result.1
-          (c.take_pair.ensures.left
-          ∙ ap (λ z. child_packet c.args.about.now.keys.now c.args.about.now.boxes.now z Left) s)
-          (c.take_pair.ensures.right
-          ∙ ap (λ z. child_packet c.args.about.now.keys.now c.args.about.now.boxes.now z Right) s)
-          _ _ c.loop-t.invariant.count c.put_rows.ensures c.loop-t.invariant.written;
-    }
+    let s = whole_split _ c.requires.given c.requires.whole c.loop-t.t lt in (
+      record {
+        taking = c.take_pair.ensures.taking;
+        count = rows_count _ _ c.loop-t.t c.take_pair.result.0 c.take_pair.result.1 c.put_rows.ensures
+            ∙ c.loop-t.invariant.0.count;
+        written = rows_written _ c.requires.whole.lawful _ _ lt c.take_pair.result.0 c.take_pair.result.1
+            (c.take_pair.ensures.left
+            ∙ ap (λ z. child_packet c.args.about.now.keys.now c.args.about.now.boxes.now z Left) s)
+            (c.take_pair.ensures.right
+            ∙ ap (λ z. child_packet c.args.about.now.keys.now c.args.about.now.boxes.now z Right) s)
+            _ _ c.loop-t.invariant.0.count c.put_rows.ensures c.loop-t.invariant.0.written;
+      },
+      c.take_pair.ensures.flags ∙ c.loop-t.invariant.1,
+    )
 
 pub returns-clause-table : goal.returns-clause-table
 returns-clause-table c =
     let n = whole_count _ c.requires.given c.requires.whole in
-    (all_out _ c.requires.whole _ _ _ _ _ c.loop-t.invariant (omega (
+    (all_out _ c.requires.whole _ _ _ _ _ _ c.loop-t.invariant.0 (omega (
       arith,
       c.loop-t-test.false,
       c.len-t-end.ensures,
@@ -58,7 +81,7 @@ returns-clause-table c =
 pub returns-clause-fitted : goal.returns-clause-fitted
 returns-clause-fitted c =
     let n = whole_count _ c.requires.given c.requires.whole in
-    (all_out _ c.requires.whole _ _ _ _ _ c.loop-t.invariant (omega (
+    (all_out _ c.requires.whole _ _ _ _ _ _ c.loop-t.invariant.0 (omega (
       arith,
       c.loop-t-test.false,
       c.len-t-end.ensures,

@@ -1,13 +1,16 @@
-use Rattle.std.proofs.Common.{arith, ap, ◌∙◌, sym, subst, ◌<◌, ℕ}
+use Rattle.std.proofs.Common.{◌≡◌, arith, ap, ◌∙◌, sym, subst, ◌+◌, ◌<◌, ℕ}
 use Rattle.std.specs.Prelude.{All}
 use Rattle.box_handoff.specs.declared.views.About.{About}
 use Rattle.box_handoff.specs.declared.views.View.{View}
-use Rattle.box_handoff.specs.Entries.{setting_of, given_of}
+use Rattle.arrival_core.specs.declared.packets.Side.{Side}
+use Rattle.box_handoff.specs.LiveNodes.{Shown, slotted}
+use Rattle.box_handoff.specs.Rule.{bit_on, side_no, node_word}
+use Rattle.box_handoff.specs.Entries.{setting_of, given_of, frame, numbers}
 use Rattle.box_handoff.specs.Seats.{id_of}
 use Rattle.box_handoff.specs.Gathering.{HasEnded, Covers, AreKept}
 use Rattle.box_handoff.specs.Counts.{IsLiveCounted}
 use Rattle.box_handoff.proofs.FrameOf.{frame_is}
-use Rattle.box_handoff.proofs.GatherLaws.{shorter, last_ended, rest_ended, seat_covers, seat_over, all_covered, kept}
+use Rattle.box_handoff.proofs.GatherLaws.{shorter, last_ended, rest_ended, seat_covers, seat_over, all_covered, kept, told_by}
 use Rattle.box_handoff.proofs.TallyLaws.{seat_adds_fits, seat_adds_steps, last_adds_fits, last_adds_steps, counts_are}
 use Rattle.box_handoff.proofs.gathering.finish.Goals as goal
 
@@ -68,6 +71,21 @@ returns-clause-taking c =
       places = c.close_with.ensures.counts.1 ∙ made.slots;
       full = λ k low lt. c.close_with.ensures.values.1 k low lt;
       empty = λ k low. absurd (omega arith);
+    }
+
+pub returns-clause-flags : goal.returns-clause-flags
+returns-clause-flags c =
+    let made = c.requires.seats.made in record {
+      places = c.close_with.ensures.counts.0 ∙ made.words;
+      full = λ k low lt. c.close_with.ensures.values.0 k low lt;
+      tells = subst (λ (a : About). (t : ℕ) (d : Side) → Shown (frame (given_of a)) t →
+          bit_on (node_word (frame (given_of a)) (numbers (given_of a)) c.close_with.result.words.items t)
+          (7 + side_no d) ≡ slotted (frame (given_of a)) t d) made.key_is
+          (told_by (given_of c.args.handoff.table.shared.key.value) _ _ _ _ c.close_with.ensures.values.2
+          (subst (λ (a : About). (k : ℕ) → k < (given_of a).seats → Covers k c.gather-seat.result.0.me.0)
+          (sym made.key_is) (all_covered _ _ _ _ c.requires.seats c.in-Some.ensures.items c.in-Some.last.seat.me.0
+          c.gather-seat.result.0.me.0 c.gather-seat.ensures.covers c.gather-seat.ensures.kept
+          (seat_covers _ _ _ (last_ended _ _ _ _ c.requires.seats c.in-Some.ensures.items)))));
     }
 
 pub returns-clause-live_counts : goal.returns-clause-live_counts

@@ -1,11 +1,35 @@
-use Rattle.std.proofs.Common.{◌≡◌, arith, subst, ℕ, length}
+use Rattle.std.proofs.Common.{◌≡◌, arith, sym, ap, ◌∙◌, subst, ℕ, List, length}
+use Rattle.arrival_core.specs.declared.packets.Packet.{Packet}
 use Rattle.arrival_core.specs.declared.packets.Side.TheVariants.{Left, Right}
 use Rattle.box_handoff.specs.LiveNodes.{splits_of}
 use Rattle.box_handoff.specs.Entries.{given_of, frame}
 use Rattle.box_handoff.specs.Packets.{ArePacketsOf}
 use Rattle.box_handoff.proofs.NumberLaws.{counted}
-use Rattle.box_handoff.proofs.ReadLaws.{one_more}
+use Rattle.box_handoff.proofs.FrameOf.{live_few}
+use Rattle.box_handoff.specs.Gathering.{AreFlags}
+use Rattle.box_handoff.proofs.ReadLaws.{one_more, has_before}
 use Rattle.box_handoff.proofs.gathering.read_out.Goals as goal
+
+pub batches_of-base-requires : goal.batches_of-base-requires
+batches_of-base-requires c = let l = live_few _ c.requires.given in omega (arith, l, c.requires.given.task.lawful.few)
+
+pub take-here-requires : goal.take-here-requires
+take-here-requires c =
+    let t = c.requires.taking in
+    (omega (arith, t.places), t.full 0 (omega arith) (omega (arith, t.places)))
+
+pub loop-i-init : goal.loop-i-init
+loop-i-init c = (
+  record {
+    taking = has_before _ _ _ _ _ _ _ _ _ c.requires.taking c.take-here.ensures.others.0 c.take-here.ensures.others.1
+        c.take-here.ensures.others.2 c.take-here.ensures.value;
+    lefts = record { count_is = ap (λ (l : List Packet). length l) c.requires.left_empty; each = λ i p lt. absurd (omega arith) };
+    rights = record { count_is = ap (λ (l : List Packet). length l) c.requires.right_empty; each = λ i p lt. absurd (omega arith) };
+  },
+  c.requires.left_room,
+  c.requires.right_room,
+  c.take-here.ensures.others.3,
+)
 
 pub loop-i-preserved : goal.loop-i-preserved
 loop-i-preserved c =
@@ -18,7 +42,12 @@ loop-i-preserved c =
       },
       omega (arith, c.push_reserved.ensures.capacity, c.loop-i.invariant.1),
       omega (arith, c.push_reserved-in-loop-i.ensures.capacity, c.loop-i.invariant.2),
+      c.take_pair.ensures.flags ∙ c.loop-i.invariant.3,
     )
+
+pub take_pair-requires-clause-flags : goal.take_pair-requires-clause-flags
+take_pair-requires-clause-flags c = subst (λ w. AreFlags (given_of c.args.about.now) w.items w.filled w.len)
+    (sym c.loop-i.invariant.3) c.requires.flags
 
 pub returns-clause-left : goal.returns-clause-left
 returns-clause-left c =

@@ -1,54 +1,63 @@
-use Rattle.std.proofs.Common.{arith, refl, sym, ap, ◌∙◌, subst, ◌+◌, ◌*◌, ◌<◌, ℕ, List, Bool, false, set, get_or, length}
-use Rattle.box_handoff.specs.LiveNodes.{splits_of}
-use Rattle.box_handoff.specs.Entries.{given_of, frame}
-use Rattle.box_handoff.specs.declared.slots.SlotPacket.{SlotPacket}
-use Rattle.box_handoff.specs.Gathering.{AreKept}
-use Rattle.box_handoff.proofs.FrameOf.{nodes_low}
-use Rattle.box_handoff.proofs.SplitLists.{listed_shown}
+use Rattle.std.proofs.Common.{arith, refl, sym, ap, ◌∙◌, ◌+◌, ℕ}
+use Rattle.arrival_core.specs.declared.packets.Side.TheVariants.{Left, Right}
+use Rattle.box_handoff.specs.Rule.{bit_on}
+use Rattle.box_handoff.specs.Packets.{child_packet}
 use Rattle.box_handoff.proofs.NumberLaws.{counted}
-use Rattle.box_handoff.proofs.ReadLaws.{taken_is, still_full, now_empty}
+use Rattle.box_handoff.proofs.ReadLaws.{taken_is, has_before, told_at, listed_low}
 use Rattle.box_handoff.proofs.gathering.take_pair.Goals as goal
 
-pub unpack-left-requires : goal.unpack-left-requires
-unpack-left-requires c =
-    let n = nodes_low _ c.requires.given in
-    let k = counted _ c.requires.given in
-    let s = (listed_shown (frame (given_of c.args.about.now)) c.args.place (omega (arith, c.requires.within, k))).0 in
-    omega (arith, n, s, c.spot_of-split.ensures)
+pub word-word-requires : goal.word-word-requires
+word-word-requires c =
+    let p = c.requires.flags.places in
+    (omega (arith, p, c.requires.base, c.requires.within), c.requires.flags.full)
 
-pub unpack-right-requires : goal.unpack-right-requires
-unpack-right-requires c =
-    let n = nodes_low _ c.requires.given in
+pub take-behind-requires : goal.take-behind-requires
+take-behind-requires c =
+    let t = c.requires.taking.taking in
+    (omega (arith, t.places, c.requires.within), t.full (c.args.place + 1) (omega arith) (omega (arith, t.places, c.requires.within)))
+
+pub read_child-left-requires-clause-within : goal.read_child-left-requires-clause-within
+read_child-left-requires-clause-within c = listed_low _ c.requires.given c.args.place _ c.requires.within
+    c.spot_of-split.ensures
+
+pub read_child-left-requires-clause-handed : goal.read_child-left-requires-clause-handed
+read_child-left-requires-clause-handed c = c.is_set.ensures
+    ∙ ap (bit_on c.word-word.result) c.bit_of.ensures
+    ∙ told_at _ c.requires.given _ _ _ c.args.place _ _ _ Left c.requires.flags c.requires.within
+    c.spot_of-split.ensures c.requires.base c.word-word.ensures
+
+pub read_child-left-requires-clause-kept : goal.read_child-left-requires-clause-kept
+read_child-left-requires-clause-kept c on =
     let k = counted _ c.requires.given in
-    let s = (listed_shown (frame (given_of c.args.about.now)) c.args.place (omega (arith, c.requires.within, k))).0 in
-    omega (arith, n, s, c.spot_of-split.ensures)
+    taken_is _ c.requires.given _ c.args.place c.args.place _ Left _ c.requires.taking.taking.kept
+    (omega (arith, c.requires.within, k)) (omega arith) c.spot_of-split.ensures c.requires.taking.here_is
+    (sym (read_child-left-requires-clause-handed c) ∙ on)
+
+pub read_child-right-requires-clause-within : goal.read_child-right-requires-clause-within
+read_child-right-requires-clause-within c = listed_low _ c.requires.given c.args.place _ c.requires.within
+    c.spot_of-split.ensures
+
+pub read_child-right-requires-clause-handed : goal.read_child-right-requires-clause-handed
+read_child-right-requires-clause-handed c = c.is_set-2.ensures
+    ∙ ap (bit_on c.word-word.result) c.bit_of-2.ensures
+    ∙ told_at _ c.requires.given _ _ _ c.args.place _ _ _ Right c.requires.flags c.requires.within
+    c.spot_of-split.ensures c.requires.base c.word-word.ensures
+
+pub read_child-right-requires-clause-kept : goal.read_child-right-requires-clause-kept
+read_child-right-requires-clause-kept c on =
+    let k = counted _ c.requires.given in
+    taken_is _ c.requires.given _ c.args.place (c.args.place + 1) _ Right _ c.requires.taking.taking.kept
+    (omega (arith, c.requires.within, k)) refl c.spot_of-split.ensures c.take-behind.ensures.value
+    (sym (read_child-right-requires-clause-handed c) ∙ on)
 
 pub returns-clause-taking : goal.returns-clause-taking
-returns-clause-taking c =
-    let before = c.requires.taking in
-    let a = c.take.ensures.others in
-    let b = c.take-2.ensures.others in
-    let emptied = b.1 ∙ ap (λ (l : List Bool). set l (2 * c.args.place + 1) false) a.1 in
-    let count = b.2 ∙ a.2 in record {
-      kept = subst (λ (l : List SlotPacket). AreKept (given_of c.args.about.now) l) (sym (b.0 ∙ a.0)) before.kept;
-      places = count ∙ before.places;
-      full = λ k low high. ap (λ (l : List Bool). get_or l k false) emptied ∙ still_full _ c.args.place k low
-          ∙ before.full k (omega (arith, low)) (subst (λ (n : ℕ). k < n) count high);
-      empty = λ k low. ap (λ (l : List Bool). get_or l k false) emptied ∙ now_empty _ c.args.place before.empty k low;
-    }
+returns-clause-taking c = has_before _ _ _ _ _ _ _ _ _ c.requires.taking.taking c.take-behind.ensures.others.0
+    c.take-behind.ensures.others.1 c.take-behind.ensures.others.2 c.take-behind.ensures.value
 
 pub returns-clause-left : goal.returns-clause-left
-returns-clause-left c =
-    let k = counted _ c.requires.given in
-    let lt : c.args.place < length (splits_of (frame (given_of c.args.about.now)))
-    = omega (arith, c.requires.within, k) in
-    taken_is _ c.requires.given _ _ c.args.place (2 * c.args.place) _ _ _ _ c.requires.taking.kept refl lt
-    (omega arith) c.spot_of-split.ensures c.take.ensures.value c.unpack-left.ensures
+returns-clause-left c = c.read_child-left.ensures
+    ∙ ap (λ (n : ℕ). child_packet c.args.about.now.keys.now c.args.about.now.boxes.now n Left) c.spot_of-split.ensures
 
 pub returns-clause-right : goal.returns-clause-right
-returns-clause-right c =
-    let k = counted _ c.requires.given in
-    let lt : c.args.place < length (splits_of (frame (given_of c.args.about.now)))
-    = omega (arith, c.requires.within, k) in
-    taken_is _ c.requires.given _ _ c.args.place (2 * c.args.place + 1) _ _ _ _ c.requires.taking.kept
-    c.take.ensures.others.0 lt refl c.spot_of-split.ensures c.take-2.ensures.value c.unpack-right.ensures
+returns-clause-right c = c.read_child-right.ensures
+    ∙ ap (λ (n : ℕ). child_packet c.args.about.now.keys.now c.args.about.now.boxes.now n Right) c.spot_of-split.ensures

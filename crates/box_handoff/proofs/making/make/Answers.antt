@@ -1,10 +1,12 @@
-use Rattle.std.proofs.Common.{arith, ap, ◌∙◌, sym, subst, List, ℕ, length}
+use Rattle.std.proofs.Common.{arith, ap, ◌∙◌, sym, subst, ◌+◌, List, ℕ, length}
 use Rattle.std.specs.declared.snapshot.Snapshot.{Snapshot}
 use Rattle.atomic_table.specs.Table.{opening}
 use Rattle.box_handoff.specs.declared.views.About.{About}
-use Rattle.box_handoff.specs.Entries.{given_of, first_view}
+use Rattle.box_handoff.specs.declared.slots.SlotPacket.{SlotPacket}
+use Rattle.box_handoff.specs.Slots.{blank}
+use Rattle.box_handoff.specs.Entries.{given_of, numbers, first_view}
 use Rattle.box_handoff.specs.Rule.{Rule}
-use Rattle.box_handoff.proofs.Opening.{opens}
+use Rattle.box_handoff.proofs.Opening.{opens, length_rep}
 use Rattle.box_handoff.proofs.FrameOf.{batches_low, nodes_low}
 use Rattle.box_handoff.proofs.NumberLaws.{count_low}
 use Rattle.box_handoff.proofs.making.make.Goals as goal
@@ -26,7 +28,8 @@ returns-clause-made c =
     let k = count_low (given_of c.args.about) c.requires.given in record {
       key_is = ap (λ (s : Snapshot About). s.value) made.5 ∙ c.of-about_now.ensures;
       words = words;
-      slots = made.1 ∙ c.requires.start.slot_count;
+      slots = made.1 ∙ ap (λ (x : List SlotPacket). length x) c.requires.start.blanks
+          ∙ length_rep ((numbers (given_of c.args.about)).count + 1) blank;
       room = omega (arith, words, b, n, k);
       given = c.requires.given;
     }

@@ -18,12 +18,12 @@ returns-in-None c = spot_none _ c.requires.given (ap spots_of c.in-None.is) c.ar
 pub index-requires : goal.index-requires
 index-requires c =
     let k = count_some (given_of c.args.about.now) c.requires.given _ (ap spots_of c.in-Some.is) in
-    omega (arith, k, c.requires.within, c.in-Some.spots.ok)
+    omega (arith, k, c.requires.within, c.in-Some.spots.splits.ok)
 
 pub returns-in-Some : goal.returns-in-Some
 returns-in-Some c =
     let k = count_some (given_of c.args.about.now) c.requires.given _ (ap spots_of c.in-Some.is) in
     c.index.ensures
-    ∙ get_or_default c.in-Some.spots.items c.args.place c.index.result.now 0 (omega (arith, k, c.requires.within))
+    ∙ get_or_default c.in-Some.spots.splits.items c.args.place c.index.result.now 0 (omega (arith, k, c.requires.within))
     ∙ ap (λ (l : List ℕ). slice_index l c.args.place)
     (spots_are (given_of c.args.about.now) c.requires.given _ (ap spots_of c.in-Some.is))

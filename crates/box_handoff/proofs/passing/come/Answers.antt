@@ -5,6 +5,7 @@ use Rattle.box_handoff.specs.Entries.{IsGiven, frame, given_of}
 use Rattle.box_handoff.specs.Made.{frame_in}
 use Rattle.box_handoff.specs.Plays.{mine}
 use Rattle.box_handoff.proofs.NumberLaws.{place_there}
+use Rattle.box_handoff.proofs.HandedLaws.{handed_is}
 use Rattle.box_handoff.proofs.GrowLaws.{grew_came}
 use Rattle.box_handoff.proofs.PassLaws.{was_small, turned_back, found_other}
 use Rattle.box_handoff.proofs.passing.come.Goals as goal
@@ -15,6 +16,14 @@ place_of-place-requires-clause-given c = subst (λ (a : About). IsGiven (given_o
 pub place_of-place-requires-clause-seen : goal.place_of-place-requires-clause-seen
 place_of-place-requires-clause-seen c = subst (λ (a : About). Shown (frame (given_of a)) c.args.load.now.split)
     c.requires.key (c.requires.load.node, c.requires.load.live)
+
+pub open-requires-clause-handed : goal.open-requires-clause-handed
+open-requires-clause-handed c = handed_is _ c.requires.given c.args.load.now c.requires.load c.is_inner-handed.result
+    c.is_inner-handed.ensures.yes c.is_inner-handed.ensures.no
+
+pub arrive-requires-clause-handed : goal.arrive-requires-clause-handed
+arrive-requires-clause-handed c = handed_is _ c.requires.given c.args.load.now c.requires.load c.is_inner-handed.result
+    c.is_inner-handed.ensures.yes c.is_inner-handed.ensures.no
 
 pub open-requires-clause-place : goal.open-requires-clause-place
 open-requires-clause-place c = place_there _ _ _ _ c.requires.key c.place_of-place.ensures.place
@@ -28,7 +37,7 @@ returns-clause-climbed c = record {
   id = c.arrive.ensures.table.1 ∙ c.put.ensures.table.1 ∙ c.open.ensures.table.1;
   view = c.arrive.ensures.did.view;
   home = c.arrive.ensures.out;
-  grew = grew_came _ c.args.seat.now.me c.open.new.seat.me c.put.new.seat.me c.arrive.new.seat.me c.arrive.result
+  grew = grew_came _ c.args.seat.now.me c.open.new.seat.me c.put.new.seat.me c.arrive.new.seat.me c.arrive.result.arrived
       c.open.ensures.did (ap mine c.put.ensures.out) c.arrive.ensures.did;
   small = λ h. c.arrive.ensures.did.small;
 }

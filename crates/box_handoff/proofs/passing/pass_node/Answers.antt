@@ -3,15 +3,18 @@ use Rattle.arrival_core.specs.States.{Worker}
 use Rattle.box_handoff.specs.Made.{frame_in}
 use Rattle.box_handoff.proofs.FrameOf.{frame_laws_of}
 use Rattle.box_handoff.proofs.ClimbLaws.{joined_is}
-use Rattle.box_handoff.proofs.PassLaws.{passed}
+use Rattle.box_handoff.proofs.PassLaws.{passed, arrived_so}
 use Rattle.box_handoff.proofs.BatchLaws.{climbed_all}
 use Rattle.box_handoff.proofs.passing.pass_node.Goals as goal
 
 pub take_other-found-requires-clause-phase : goal.take_other-found-requires-clause-phase
-take_other-found-requires-clause-phase c = ap (λ (w : Worker). w.phase) (c.come.ensures.second c.if-not-come.false)
+take_other-found-requires-clause-phase c = ap (λ (w : Worker). w.phase) (c.come-across.ensures.second (arrived_so _ c.if-not-across.false))
+
+pub take_other-found-requires-clause-handed : goal.take_other-found-requires-clause-handed
+take_other-found-requires-clause-handed c = c.come-across.ensures.other (arrived_so _ c.if-not-across.false)
 
 pub returns-clause-climbed : goal.returns-clause-climbed
-returns-clause-climbed c = climbed_all _ _ _ _ c.come.ensures.climbed c.take_other-found.ensures.climbed
+returns-clause-climbed c = climbed_all _ _ _ _ c.come-across.ensures.climbed c.take_other-found.ensures.climbed
 
 pub returns-clause-packet : goal.returns-clause-packet
 returns-clause-packet c = c.joined.ensures ∙ joined_is _ (frame_laws_of _ c.requires.given) c.args.load.now _
@@ -19,5 +22,5 @@ returns-clause-packet c = c.joined.ensures ∙ joined_is _ (frame_laws_of _ c.re
 
 pub returns-clause-second : goal.returns-clause-second
 returns-clause-second c = passed (frame_in c.args.table.now.key) c.args.load.now _ _ c.args.seat.now.me
-    c.come.new.seat.me c.take_other-found.new.seat.me (c.come.ensures.second c.if-not-come.false)
+    c.come-across.new.seat.me c.take_other-found.new.seat.me (c.come-across.ensures.second (arrived_so _ c.if-not-across.false))
     c.take_other-found.ensures.worker c.joined.ensures

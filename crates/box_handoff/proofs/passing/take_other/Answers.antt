@@ -1,13 +1,15 @@
-use Rattle.std.proofs.Common.{subst, ap, ◌∙◌, refl}
-use Rattle.arrival_core.specs.Frames.{other}
+use Rattle.std.proofs.Common.{subst, ap, ◌∙◌}
+use Rattle.arrival_core.specs.Frames.{other, packet_at}
 use Rattle.box_handoff.specs.declared.views.About.{About}
 use Rattle.box_handoff.specs.LiveNodes.{Shown}
 use Rattle.box_handoff.specs.Entries.{IsGiven, frame, given_of}
 use Rattle.box_handoff.specs.Made.{frame_in}
-use Rattle.box_handoff.specs.Plays.{mine}
+use Rattle.box_handoff.specs.Slots.{packed}
+use Rattle.box_handoff.specs.Rule.{slot}
+use Rattle.box_handoff.specs.Plays.{mine, lent}
 use Rattle.box_handoff.proofs.NumberLaws.{place_there}
 use Rattle.box_handoff.proofs.GrowLaws.{grew_left}
-use Rattle.box_handoff.proofs.PassLaws.{out_alone, holds_both, still_out, left_with}
+use Rattle.box_handoff.proofs.PassLaws.{holds_both, still_out, left_with}
 use Rattle.box_handoff.proofs.passing.take_other.Goals as goal
 
 pub place_of-place-requires-clause-given : goal.place_of-place-requires-clause-given
@@ -21,7 +23,9 @@ pub collect-requires-clause-place : goal.collect-requires-clause-place
 collect-requires-clause-place c = place_there _ _ _ _ c.requires.key c.place_of-place.ensures.place
 
 pub found_there-found-requires-clause-out : goal.found_there-found-requires-clause-out
-found_there-found-requires-clause-out c = out_alone _ _ _ _ _ c.collect.ensures.out c.requires.home refl
+found_there-found-requires-clause-out c = c.collect.ensures.out ∙ ap (lent c.args.handed
+    (slot c.place_of-place.result (other c.args.load.now.side)) (packed (other c.args.load.now.side)
+    (packet_at (frame_in c.args.table.now.key) c.args.load.now.split (other c.args.load.now.side)))) c.requires.home
 
 pub leave-requires-clause-place : goal.leave-requires-clause-place
 leave-requires-clause-place c = place_there _ _ _ _ c.requires.key c.place_of-place.ensures.place
@@ -32,7 +36,7 @@ leave-requires-clause-phase c = holds_both c.args.load.now _ _ c.args.seat.now.m
     c.found_there-found.ensures.found
 
 pub leave-requires-clause-out : goal.leave-requires-clause-out
-leave-requires-clause-out c = still_out (other c.args.load.now.side) _ _ _ c.args.seat.now.me c.collect.new.seat.me
+leave-requires-clause-out c = still_out c.args.handed (other c.args.load.now.side) _ _ _ c.args.seat.now.me c.collect.new.seat.me
     c.found_there-found.new.seat.me c.collect.ensures.out c.requires.home c.found_there-found.ensures.same
     c.found_there-found.ensures.found
 

@@ -5,7 +5,7 @@ use Rattle.fixed_box.specs.declared.shapes.Box3.{Box3}
 use Rattle.morton_key.specs.Keys.{tri_at}
 use Rattle.radix_tree.specs.Fit.{box_of_triangle}
 use Rattle.box_handoff.specs.Entries.{frame}
-use Rattle.box_handoff.proofs.climbing.leaf_packet.Goals as goal
+use Rattle.box_handoff.proofs.resting.leaf_packet.Goals as goal
 
 pub returns : goal.returns
 unfolding frame frame_of
