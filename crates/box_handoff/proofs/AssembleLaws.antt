@@ -37,6 +37,7 @@ child_count old new k p puts = elim puts [
   | inr same ↦ ap (λ l. length l) same.1
 ]
 
+-- a root put into a list leaves as many nodes
 pub root_count : (old new : List Node) (s : ℕ) (l r : Packet) → PutsRoot old new s l r → length new ≡ length old
 root_count old new s l r puts = elim puts [
   | inl put ↦ ap (λ xs. length xs) put.1
@@ -44,6 +45,7 @@ root_count old new s l r puts = elim puts [
   | inr same ↦ ap (λ xs. length xs) same.1
 ]
 
+-- and so do two rows
 pub rows_count : (old new : List Node) (t : ℕ) (l r : Packet) → PutsRows old new t l r → length new ≡ length old
 rows_count old new t l r puts = root_count puts.1 new t l r puts.4 ∙ child_count puts.0 puts.1 (t + 1) r puts.3
     ∙ child_count old puts.0 t l puts.2

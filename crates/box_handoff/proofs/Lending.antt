@@ -23,6 +23,7 @@ abbrev pub lends : Bool → ℕ → SlotPacket → Act SlotPacket
 lends true k y = takes k y
 lends false k y = keeps
 
+-- what is done with a slot that was out: it goes back, if there is one
 abbrev pub returns : Bool → Act SlotPacket
 returns true = gives
 returns false = keeps

@@ -76,6 +76,7 @@ stays_honest f e ev h = record {
 pub in_left : (xs ys : List Entry) (e : Entry) → In e xs → In e (xs ++ ys)
 in_left xs ys e (k, at) = (k, at_longer xs ys k e at)
 
+-- an entry of the second of two lists is one of both together
 pub in_right : (xs ys : List Entry) (e : Entry) → In e ys → In e (xs ++ ys)
 in_right [] ys e h = h
 in_right (x ∷ xs) ys e h = let t = in_right xs ys e h in (suc t.0, t.1)

@@ -7,9 +7,11 @@ use Rattle.std.proofs.lemmas.List.Kept.{AllPairs-cons}
 use Rattle.arrival_core.specs.Frames.{Frame}
 use Rattle.box_handoff.specs.LiveNodes.{Shown, live_splits, splits_of}
 
+-- where the test holds, the first of two is chosen
 if_true : {A : Type 0} (b : Bool) (x y : A) → b ≡ true → (if b then x else y) ≡ x
 if_true b x y e = ap (λ (c : Bool). if c then x else y) e
 
+-- where it does not, the second
 if_false : {A : Type 0} (b : Bool) (x y : A) → b ≡ false → (if b then x else y) ≡ y
 if_false b x y e = ap (λ (c : Bool). if c then x else y) e
 
@@ -19,10 +21,12 @@ pub splits_on : (f : Frame) (a m : ℕ) → f.live_node a ≡ true →
 unfolding live_splits
 splits_on f a m e = if_true (f.live_node a) (a ∷ live_splits f (suc a) m) (live_splits f (suc a) m) e
 
+-- a node that is not live adds no split
 pub splits_off : (f : Frame) (a m : ℕ) → f.live_node a ≡ false → live_splits f a (suc m) ≡ live_splits f (suc a) m
 unfolding live_splits
 splits_off f a m e = if_false (f.live_node a) (a ∷ live_splits f (suc a) m) (live_splits f (suc a) m) e
 
+-- no node has no split
 pub splits_zero : (f : Frame) (a : ℕ) → live_splits f a 0 ≡ []
 unfolding live_splits
 splits_zero f a = refl
@@ -32,6 +36,7 @@ abbrev IsOf : Frame → ℕ → ℕ → List ℕ → Type 0
 IsOf f a m xs = (i : ℕ) → i < length xs →
     (a ≤ slice_index xs i) × (slice_index xs i < a + m) × (f.live_node (slice_index xs i) ≡ true)
 
+-- a live node goes before the live ones behind it
 consed : (f : Frame) (a m : ℕ) (xs : List ℕ) → f.live_node a ≡ true → IsOf f (suc a) m xs → IsOf f a (suc m) (a ∷ xs)
 consed f a m xs on h zero l = (omega arith, omega arith, on)
 consed f a m xs on h (suc i) l =
@@ -39,12 +44,14 @@ consed f a m xs on h (suc i) l =
     let x = t.0 in
     let y = t.1 in (omega arith, omega arith, t.2)
 
+-- the live ones behind a node that is not live are those from it on
 wider : (f : Frame) (a m : ℕ) (xs : List ℕ) → IsOf f (suc a) m xs → IsOf f a (suc m) xs
 wider f a m xs h i l =
     let t = h i l in
     let x = t.0 in
     let y = t.1 in (omega arith, omega arith, t.2)
 
+-- the listed splits are those of the live nodes of the run
 pub splits_are : (f : Frame) (a m : ℕ) → IsOf f a m (live_splits f a m)
 splits_are f a zero = subst (IsOf f a 0) (sym (splits_zero f a)) (λ i l. absurd (omega arith))
 splits_are f a (suc m) =
@@ -61,6 +68,7 @@ above f a m i d l =
     let t = (splits_are f (suc a) m i l).0 in
     subst (λ q. a < q) (sym (get_or_default (live_splits f (suc a) m) i d 0 l)) (omega (arith, t))
 
+-- they rise
 pub splits_rise : (f : Frame) (a m : ℕ) → AllPairs (λ p q. p < q) (live_splits f a m)
 splits_rise f a zero = subst (AllPairs (λ p q. p < q)) (sym (splits_zero f a)) (λ i j d l k. absurd (omega arith))
 splits_rise f a (suc m) =
@@ -75,6 +83,7 @@ splits_rise f a (suc m) =
 abbrev pub Has : List ℕ → ℕ → Type 0
 Has xs t = (i : ℕ) × (i < length xs) × (slice_index xs i ≡ t)
 
+-- each live node of the run is listed
 pub splits_have : (f : Frame) (a m t : ℕ) → a ≤ t → t < a + m → f.live_node t ≡ true → Has (live_splits f a m) t
 splits_have f a zero t low high on = absurd (omega arith)
 splits_have f a (suc m) t low high on = ⊎_elim
@@ -102,6 +111,7 @@ after_head : (a i : ℕ) (xs : List ℕ) → ((j : ℕ) → suc j ≡ i → slic
 after_head a zero xs h = omega arith
 after_head a (suc j) xs h = h j refl ∙ (let z : suc a + j ≡ a + suc j = omega arith in z)
 
+-- where all nodes of a run are live, it is listed whole
 pub splits_all : (f : Frame) (a m : ℕ) → ((t : ℕ) → a ≤ t → t < a + m → f.live_node t ≡ true) →
     (length (live_splits f a m) ≡ m) × ((i : ℕ) → i < m → slice_index (live_splits f a m) i ≡ a + i)
 splits_all f a zero h = (ap (λ (l : List ℕ). length l) (splits_zero f a), λ i l. absurd (omega arith))

@@ -28,6 +28,7 @@ use Rattle.box_handoff.proofs.Standing.{workers_are}
 pub fits_both : (v w : View) → fits_of (both_views v w) ≡ fits_of v + fits_of w
 fits_both v w = total_append (λ (e : Entry). e.tally.fits) v.entries w.entries
 
+-- the steps of two views together are the sum of theirs
 pub steps_both : (v w : View) → steps_of (both_views v w) ≡ steps_of v + steps_of w
 steps_both v w = total_append (λ (e : Entry). e.tally.steps) v.entries w.entries
 
@@ -37,6 +38,7 @@ seat_adds_fits g z s h =
     let a : fits_of s.seat.me.0 ≡ (entry_of s).tally.fits + 0 = ap fits_of h.view in
     let b : s.tally.fits ≡ (entry_of s).tally.fits = ap (λ (t : Tally). t.fits) h.tally in omega (arith, a, b)
 
+-- the steps of a seat's tally are those of its view
 pub seat_adds_steps : (g : Given) (z : TableId) (s : HandSeat) → IsSeat g z s → s.tally.steps ≡ steps_of s.seat.me.0
 seat_adds_steps g z s h =
     let a : steps_of s.seat.me.0 ≡ (entry_of s).tally.steps + 0 = ap steps_of h.view in
@@ -50,6 +52,7 @@ last_adds_fits old new x e =
     let b : seat_fits (new ++ x ∷ []) ≡ seat_fits new + (x.tally.fits + 0)
     = total_append (λ (s : HandSeat). s.tally.fits) new (x ∷ []) in omega (arith, a, b)
 
+-- the steps of a list of seats are those of all but the last and the last's
 pub last_adds_steps : (old new : List HandSeat) (x : HandSeat) → old ≡ new ++ x ∷ [] →
     seat_steps old ≡ seat_steps new + x.tally.steps
 last_adds_steps old new x e =

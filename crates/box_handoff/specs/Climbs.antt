@@ -1,5 +1,7 @@
 -- How a seat's list of events grows.
-use Rattle.std.specs.Prelude.{true, ℕ, ◌≡◌, ◌<◌, ◌∷◌, [], List, ◌++◌, ◌+◌, Option, Some, None}
+use Rattle.std.specs.Prelude.{true, ℕ, ◌≡◌, ◌<◌, ◌∷◌, [], List, ◌++◌, ◌+◌, ◌^◌, Option, Some, None}
+use Rattle.std.specs.declared.snapshot.Snapshot.{Snapshot}
+use Rattle.atomic_table.specs.Seated.{TableId}
 use Rattle.atomic_table.specs.declared.shared.Seat.{Seat}
 use Rattle.arrival_core.specs.declared.packets.Tally.{Tally}
 use Rattle.arrival_core.specs.declared.packets.Packet.{Packet}
@@ -17,7 +19,9 @@ use Rattle.box_handoff.specs.declared.views.Given.{Given}
 use Rattle.box_handoff.specs.declared.views.Entry.{Entry}
 use Rattle.box_handoff.specs.declared.views.View.{View}
 use Rattle.box_handoff.specs.LiveNodes.{Shown}
-use Rattle.box_handoff.specs.Entries.{numbers, frame, one, grown, after, after_all, worker_of}
+use Rattle.box_handoff.specs.declared.views.About.{About}
+use Rattle.box_handoff.specs.Made.{given_in, frame_in, numbers_in}
+use Rattle.box_handoff.specs.Entries.{IsGiven, numbers, frame, one, grown, after, after_all, worker_of}
 use Rattle.box_handoff.specs.Plays.{Mine, mine, IsSmall}
 
 -- the event is the one that a phase names
@@ -50,6 +54,14 @@ pub record Climbed (g : Given) (old new : Seat SlotPacket View) : Type 0 where
   pub home : new.me.1 ≡ []
   pub grew : Grew (frame g) (mine old.me) (mine new.me)
   pub small : IsSmall (mine old.me).tally → IsSmall (mine new.me).tally
+
+-- a table over what it tells about: it has words for the batches, and behind them one for each node
+pub record IsTold (about : About) (key : Snapshot About) (z : TableId) (base : ℕ) : Type 0 where
+  pub key_is : key.value ≡ about
+  pub batches : base ≡ (frame_in key).batches
+  pub words : z.words ≡ (frame_in key).batches + (numbers_in key).count
+  pub room : z.words < 2 ^ 60
+  pub given : IsGiven (given_in key)
 
 -- a load for a side of a live node, with the packet of the live child there
 pub record IsCarried (f : Frame) (l : Load) : Type 0 where

@@ -3,7 +3,7 @@ ghost use Rattle.std.specs.Prelude.{true, ◌≡◌, ◌<◌, ◌+◌, ◌^◌, 
 ghost use Rattle.box_handoff.specs.Made.{given_in, frame_in, numbers_in};
 ghost use Rattle.box_handoff.specs.Entries.{IsGiven, numbers, frame, given_of, one, worker_of};
 ghost use Rattle.box_handoff.specs.Plays.{mine, IsSmall};
-ghost use Rattle.box_handoff.specs.Climbs.{Climbed, IsCarried, Working};
+ghost use Rattle.box_handoff.specs.Climbs.{Climbed, IsCarried, IsTold, Working};
 ghost use Rattle.arrival_core.specs.Frames.{other, packet_at};
 ghost use Rattle.arrival_core.specs.Events.{resume, join};
 ghost use Rattle.arrival_core.specs.Start.{fresh};
@@ -39,17 +39,13 @@ pub fn carry_up<W: Ways>(
     tally: Tally,
 ) -> Tally
     requires table { seat.old.table_id ≡ table.now.table_id }
-    requires key { table.now.key.value ≡ about.now }
-    requires words { let f = frame_in table.now.key in (base ≡ f.batches)
-        × (table.now.table_id.words ≡ f.batches + (numbers_in table.now.key).count) }
-    requires room { table.now.table_id.words < 2 ^ 60 }
+    requires over { IsTold about.now table.now.key table.now.table_id base }
     requires one { seat.old.me.0 ≡ one (given_in table.now.key) (mine seat.old.me) }
     requires home { seat.old.me.1 ≡ [] }
     requires phase { (mine seat.old.me).phase ≡ Carry load }
     requires load { IsCarried (frame_in table.now.key) load }
     requires tally { tally ≡ (mine seat.old.me).tally }
     requires ways { W.stands ways.now (given_in table.now.key).keys }
-    requires given { IsGiven (given_in table.now.key) }
     ensures climbed { Climbed (given_in table.now.key) seat.old seat.new }
     ensures worker { worker_of (mine seat.new.me) ≡ resume (frame_in table.now.key) (mine seat.old.me).next
         (mine seat.old.me).pending result }
@@ -113,17 +109,13 @@ fn carry_batch<W: Ways>(
     tally: Tally,
 ) -> Tally
     requires table { seat.old.table_id ≡ table.now.table_id }
-    requires key { table.now.key.value ≡ about.now }
-    requires words { let f = frame_in table.now.key in (base ≡ f.batches)
-        × (table.now.table_id.words ≡ f.batches + (numbers_in table.now.key).count) }
-    requires room { table.now.table_id.words < 2 ^ 60 }
+    requires over { IsTold about.now table.now.key table.now.table_id base }
     requires within { batch < (frame_in table.now.key).batches }
     requires one { seat.old.me.0 ≡ one (given_in table.now.key) (mine seat.old.me) }
     requires home { seat.old.me.1 ≡ [] }
     requires worker { worker_of (mine seat.old.me) ≡ resume (frame_in table.now.key) (batch + 1)
         ((frame_in table.now.key).batch batch) tally }
     requires ways { W.stands ways.now (given_in table.now.key).keys }
-    requires given { IsGiven (given_in table.now.key) }
     ensures { Working (given_in table.now.key) seat.old seat.new (batch + 1) [] result }
 {
     let mut tally = tally;
@@ -147,16 +139,12 @@ fn take_batch<W: Ways>(
     tally: Tally,
 ) -> Tally
     requires table { seat.old.table_id ≡ table.now.table_id }
-    requires key { table.now.key.value ≡ about.now }
-    requires words { let f = frame_in table.now.key in (base ≡ f.batches)
-        × (table.now.table_id.words ≡ f.batches + (numbers_in table.now.key).count) }
-    requires room { table.now.table_id.words < 2 ^ 60 }
+    requires over { IsTold about.now table.now.key table.now.table_id base }
     requires within { batch < (frame_in table.now.key).batches }
     requires one { seat.old.me.0 ≡ one (given_in table.now.key) (mine seat.old.me) }
     requires home { seat.old.me.1 ≡ [] }
     requires worker { worker_of (mine seat.old.me) ≡ resume (frame_in table.now.key) batch [] tally }
     requires ways { W.stands ways.now (given_in table.now.key).keys }
-    requires given { IsGiven (given_in table.now.key) }
     ensures { Working (given_in table.now.key) seat.old seat.new (batch + 1) [] result }
 {
     let was_claimed = take(table, seat, batch);
@@ -181,15 +169,11 @@ pub fn climb_with<W: Ways, G: Gate>(
     gate: &G,
 ) -> Tally
     requires table { seat.old.table_id ≡ table.now.table_id }
-    requires key { table.now.key.value ≡ about.now }
-    requires words { let f = frame_in table.now.key in (base ≡ f.batches)
-        × (table.now.table_id.words ≡ f.batches + (numbers_in table.now.key).count) }
-    requires room { table.now.table_id.words < 2 ^ 60 }
+    requires over { IsTold about.now table.now.key table.now.table_id base }
     requires one { seat.old.me.0 ≡ one (given_in table.now.key) (mine seat.old.me) }
     requires home { seat.old.me.1 ≡ [] }
     requires unbegun { worker_of (mine seat.old.me) ≡ fresh }
     requires ways { W.stands ways.now (given_in table.now.key).keys }
-    requires given { IsGiven (given_in table.now.key) }
     ensures climbed { Climbed (given_in table.now.key) seat.old seat.new }
     ensures ended { (mine seat.new.me).phase ≡ Ended }
     ensures tally { result ≡ (mine seat.new.me).tally }

@@ -17,7 +17,7 @@ use crate::making::zeros;
 use arrival_core::BATCH;
 use fixed_box::Box3;
 use outside::Memory;
-use radix_tree::{Child, Node, Tree, left, right};
+use radix_tree::{Child, Node, Tree, left, node_of, right};
 use std::alloc::Global;
 
 /// A tree, the boxes of its triangles now, and the positions of those that may have changed, for so many seats.
@@ -34,14 +34,6 @@ pub struct Moves<'a> {
 pub struct Laid {
     pub spots: Vec<u32>,
     pub words: Vec<u64>,
-}
-
-/// The node of that number.
-pub fn node_of(tree: &Tree, number: u32) -> Node
-    requires { number < length tree.now.nodes }
-    ensures { result ≡ node_at tree.now.nodes number }
-{
-    tree.nodes()[number as usize]
 }
 
 /// Whether some live position lies in a range. The live ones rise, so the first that is not below the range tells.

@@ -10,7 +10,7 @@ ghost use Rattle.box_handoff.specs.Slots.{packed};
 ghost use Rattle.box_handoff.specs.Made.{given_in, frame_in, numbers_in};
 ghost use Rattle.box_handoff.specs.Entries.{IsGiven, one, worker_of};
 ghost use Rattle.box_handoff.specs.Plays.{mine, IsSmall, lent};
-ghost use Rattle.box_handoff.specs.Climbs.{Climbed, IsCarried, came_first, finds_other, leaves_with, came_second};
+ghost use Rattle.box_handoff.specs.Climbs.{Climbed, IsCarried, IsTold, came_first, finds_other, leaves_with, came_second};
 
 use crate::numbering::place_of;
 use crate::plays::{HandTable, TableSeat};
@@ -57,16 +57,12 @@ fn come(
     base: usize,
     load: &Load,
 ) -> Opposite
-    requires key { table.now.key.value ≡ about.now }
     requires table { seat.old.table_id ≡ table.now.table_id }
-    requires words { let f = frame_in table.now.key in (base ≡ f.batches)
-        × (table.now.table_id.words ≡ f.batches + (numbers_in table.now.key).count) }
-    requires room { table.now.table_id.words < 2 ^ 60 }
+    requires over { IsTold about.now table.now.key table.now.table_id base }
     requires one { seat.old.me.0 ≡ one (given_in table.now.key) (mine seat.old.me) }
     requires home { seat.old.me.1 ≡ [] }
     requires phase { (mine seat.old.me).phase ≡ Carry load.now }
     requires load { IsCarried (frame_in table.now.key) load.now }
-    requires given { IsGiven (given_in table.now.key) }
     ensures climbed { Climbed (given_in table.now.key) seat.old seat.new }
     ensures small { IsSmall (mine seat.old.me).tally }
     ensures other { result.arrived ≡ true →
@@ -121,16 +117,12 @@ fn take_other(
     handed: bool,
 ) -> Packet
     requires handed { handed ≡ slotted (frame_in table.now.key) load.now.split (other load.now.side) }
-    requires key { table.now.key.value ≡ about.now }
     requires table { seat.old.table_id ≡ table.now.table_id }
-    requires words { let f = frame_in table.now.key in (base ≡ f.batches)
-        × (table.now.table_id.words ≡ f.batches + (numbers_in table.now.key).count) }
-    requires room { table.now.table_id.words < 2 ^ 60 }
+    requires over { IsTold about.now table.now.key table.now.table_id base }
     requires one { seat.old.me.0 ≡ one (given_in table.now.key) (mine seat.old.me) }
     requires home { seat.old.me.1 ≡ [] }
     requires phase { (mine seat.old.me).phase ≡ Second load.now }
     requires load { IsCarried (frame_in table.now.key) load.now }
-    requires given { IsGiven (given_in table.now.key) }
     ensures climbed { Climbed (given_in table.now.key) seat.old seat.new }
     ensures found { result ≡ packet_at (frame_in table.now.key) load.now.split (other load.now.side) }
     ensures worker { worker_of (mine seat.new.me) ≡ leaves_with (frame_in table.now.key) load.now result
@@ -151,16 +143,12 @@ pub fn pass_node(
     base: usize,
     load: &Load,
 ) -> Option<Packet>
-    requires key { table.now.key.value ≡ about.now }
     requires table { seat.old.table_id ≡ table.now.table_id }
-    requires words { let f = frame_in table.now.key in (base ≡ f.batches)
-        × (table.now.table_id.words ≡ f.batches + (numbers_in table.now.key).count) }
-    requires room { table.now.table_id.words < 2 ^ 60 }
+    requires over { IsTold about.now table.now.key table.now.table_id base }
     requires one { seat.old.me.0 ≡ one (given_in table.now.key) (mine seat.old.me) }
     requires home { seat.old.me.1 ≡ [] }
     requires phase { (mine seat.old.me).phase ≡ Carry load.now }
     requires load { IsCarried (frame_in table.now.key) load.now }
-    requires given { IsGiven (given_in table.now.key) }
     ensures climbed { Climbed (given_in table.now.key) seat.old seat.new }
     ensures small { IsSmall (mine seat.old.me).tally }
     ensures packet { IfSome result (λ p. p ≡ (frame_in table.now.key).node_packet load.now.split) }

@@ -14,10 +14,10 @@ ghost use Rattle.box_handoff.specs.Entries.{IsGiven, frame, given_of};
 ghost use Rattle.box_handoff.specs.Laying.{AreMoves, over, terrain_of};
 ghost use Rattle.box_handoff.specs.Resting.{first_below, last_below, leaf_below};
 
-use crate::laying::{Moves, node_of};
+use crate::laying::Moves;
 use crate::views::About;
 use crate::{Packet, Side};
-use radix_tree::{Child, Tree, box_at};
+use radix_tree::{Child, Tree, box_at, node_of};
 
 /// The packet of the leaf at a position.
 pub fn leaf_packet(about: &About<'_>, position: u32) -> Packet

@@ -37,7 +37,7 @@ pub parent-requires : goal.parent-requires
 parent-requires g c = (
   _,
   c.requires.ways,
-  joined_in _ c.requires.given c.loop-packet.load _
+  joined_in _ c.requires.over.given c.loop-packet.load _
       c.loop-packet.invariant.load_is.node c.in-Some.ensures.packet,
 )
 
@@ -61,13 +61,13 @@ loop-packet-preserved g c = let i = c.loop-packet.invariant in
     record {
       climbed = climbed_all _ _ _ _ i.climbed c.in-Some.ensures.climbed;
       phase = ap (λ (w : Worker). w.phase) worker;
-      load_is = carried_up _ (frame_laws_of _ c.requires.given) _ _ _ i.load_is c.in-Some.ensures.packet up;
+      load_is = carried_up _ (frame_laws_of _ c.requires.over.given) _ _ _ i.load_is c.in-Some.ensures.packet up;
       tally_is = sym (ap (λ (w : Worker). w.tally) worker);
       next = ap (λ (w : Worker). w.next) worker;
       pending = ap (λ (w : Worker). w.pending) worker;
     }
 
 pub loop-packet-smaller : goal.loop-packet-smaller
-loop-packet-smaller g c = wider _ (frame_laws_of _ c.requires.given) c.loop-packet.load _
+loop-packet-smaller g c = wider _ (frame_laws_of _ c.requires.over.given) c.loop-packet.load _
     c.loop-packet.invariant.load_is
     c.in-Some.ensures.packet

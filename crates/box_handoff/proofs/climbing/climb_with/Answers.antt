@@ -16,7 +16,7 @@ loop-batch-init g c = record {
     small = λ h. h;
   };
   worker = begins (frame (given_of c.args.table.now.key.value)) c.args.seat.now.me
-      (frame_laws_of _ c.requires.given).frame_laws.some_batch c.requires.unbegun;
+      (frame_laws_of _ c.requires.over.given).frame_laws.some_batch c.requires.unbegun;
 }
 
 pub loop-batch-preserved : goal.loop-batch-preserved

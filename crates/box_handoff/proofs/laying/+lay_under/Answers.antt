@@ -13,7 +13,7 @@ returns-in_default t c = λ a b range. under_leaf c.args.m.now c.requires.moves 
 pub returns-then-not-is_live : goal.returns-then-not-is_live
 returns-then-not-is_live t c = λ a b range. under_still c.args.m.now c.requires.moves c.in-Inner.number
     (subst (λ (x : Child). IsChild c.args.m.now.tree.now x) c.in-Inner.is c.requires.child) c.node_of-node.result
-    c.node_of-node.ensures (sym c.is_live.ensures ∙ c.if-not-is_live.true) c.args.laid.now a b
+    c.node_of-node.ensures.value (sym c.is_live.ensures ∙ c.if-not-is_live.true) c.args.laid.now a b
     (subst (λ (x : Child). HasRange c.args.m.now.tree.now.keys x a b) c.in-Inner.is range)
 
 pub lay_under-requires : goal.lay_under-requires
@@ -59,7 +59,7 @@ pub returns : goal.returns
 returns t c = λ a b range.
     let lt : c.in-Inner.number < length c.args.m.now.tree.now.nodes = subst
     (λ (x : Child). IsChild c.args.m.now.tree.now x) c.in-Inner.is c.requires.child in
-    under_live c.args.m.now c.requires.moves c.in-Inner.number lt c.node_of-node.result c.node_of-node.ensures
+    under_live c.args.m.now c.requires.moves c.in-Inner.number lt c.node_of-node.result c.node_of-node.ensures.value
     c.left.result c.right.result c.left.ensures c.right.ensures (sym c.is_live.ensures ∙ c.if-not-is_live.false)
     c.args.laid.now c.lay_under.new.laid c.lay_node.new.laid c.lay_under-2.new.laid c.in_ok-lay_under.ensures
     c.in_ok-lay_node.ensures c.lay_under-2.result c.lay_under-2.ensures a b

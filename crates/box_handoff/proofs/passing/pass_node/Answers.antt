@@ -17,7 +17,7 @@ pub returns-clause-climbed : goal.returns-clause-climbed
 returns-clause-climbed c = climbed_all _ _ _ _ c.come-across.ensures.climbed c.take_other-found.ensures.climbed
 
 pub returns-clause-packet : goal.returns-clause-packet
-returns-clause-packet c = c.joined.ensures ∙ joined_is _ (frame_laws_of _ c.requires.given) c.args.load.now _
+returns-clause-packet c = c.joined.ensures ∙ joined_is _ (frame_laws_of _ c.requires.over.given) c.args.load.now _
     c.requires.load c.take_other-found.ensures.found
 
 pub returns-clause-second : goal.returns-clause-second

@@ -26,11 +26,11 @@ returns-then-node_of-next c = right_inner c.args.tree.now c.requires.table c.arg
       c.if-next-nodes.false,
       ap (λ l. length l) c.nodes.ensures.nodes,
     ))
-    (sym (ap (λ (x : Node). x.first) c.node_of.ensures) ∙ c.if-node_of-next.true)
+    (sym (ap (λ (x : Node). x.first) c.node_of.ensures.value) ∙ c.if-node_of-next.true)
 
 pub returns-else-node_of-next : goal.returns-else-node_of-next
 returns-else-node_of-next c = (
   next c.args.split,
   right_leaf c.args.tree.now c.requires.table c.args.split c.requires.within _ (next c.args.split)
-      (λ less e. c.if-node_of-next.false (ap (λ (x : Node). x.first) c.node_of.ensures ∙ e)),
+      (λ less e. c.if-node_of-next.false (ap (λ (x : Node). x.first) c.node_of.ensures.value ∙ e)),
 )
