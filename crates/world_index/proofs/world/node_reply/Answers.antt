@@ -3,7 +3,7 @@ use Rattle.query_script.specs.declared.faults.LineFault.TheVariants.{NoSuchNode}
 use Rattle.query_script.specs.declared.replies.Reply.TheVariants.{NodeIs, Refused}
 use Rattle.radix_tree.specs.Table.{node_at}
 use Rattle.radix_tree.proofs.RowLaws.{node_is}
-use Rattle.streams.proofs.Within.{is_less}
+use Rattle.std.proofs.lemmas.Bool.{lt-ltb}
 use Rattle.world_index.proofs.world.node_reply.Goals as goal
 
 pub returns-then-number-nodes : goal.returns-then-number-nodes
@@ -13,4 +13,4 @@ returns-then-number-nodes c =
     let inside = c.if-number-nodes.true in
     ap (NodeIs number) (node_is nodes number c.index-nodes-number.result inside c.index-nodes-number.is)
     ∙ sym (ap (λ b. if b then NodeIs number (node_at nodes number) else Refused NoSuchNode)
-    (is_less number (length nodes) inside))
+    (lt-ltb number (length nodes) inside))
