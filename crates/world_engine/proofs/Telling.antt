@@ -1,12 +1,11 @@
 -- A report that is told stage by stage.
-use Rattle.std.proofs.Common.{◌≡◌, ℕ, ◌*◌, List, [], ◌∷◌, ◌++◌, length, append_assoc, append-nil, refl, ap, ◌∙◌, sym}
+use Rattle.std.proofs.Common.{◌≡◌, ◌<◌, ℕ, ◌+◌, ◌*◌, List, [], ◌∷◌, ◌++◌, length, map, take, get_or, append_assoc, append-nil, refl, ap, ◌∙◌, sym}
+use Rattle.std.proofs.lemmas.List.{take_more, map-append}
 use Rattle.obj_text.proofs.HeightFields.{length-rows}
-use Rattle.query_script.specs.declared.asks.Ask.{Ask}
 use Rattle.world_engine.specs.declared.workload.TheConstants.{QUERIES}
 use Rattle.world_index.specs.Worlds.{WorldState}
 use Rattle.world_engine.specs.Workload.{query_asks, pass_asks}
-use Rattle.world_engine.specs.Sums.{sums_of, sums_text}
-use Rattle.world_engine.specs.Reports.{Stage, replies_to, world_after, text_of, pass_stage, silent_stage}
+use Rattle.world_engine.specs.Reports.{Stage, replies_to, world_after, text_of}
 
 -- the world after stages
 abbrev pub worlds_after : WorldState → List Stage → WorldState
@@ -53,21 +52,11 @@ tells_more world stages stage now later text more told world_is text_is = record
       ∙ ap (λ w. text_of world stages ++ stage_text w stage) told.world_is ∙ sym (text_of-append world stages stage);
 }
 
--- one pass more
-pub pass_more : (world : WorldState) (stages : List Stage) (side : ℕ) (asks : List Ask) (now later : WorldState)
-    (text more : List ℕ) → Tells world stages now text → asks ≡ pass_asks side → later ≡ world_after now asks
-    → more ≡ text ++ sums_text (sums_of (replies_to now asks)) → Tells world (stages ++ pass_stage side ∷ []) later more
-pass_more world stages side asks now later text more told is world_is text_is =
-    tells_more world stages (pass_stage side) now later text more told (world_is ∙ ap (world_after now) is)
-    (text_is ∙ ap (λ a. text ++ sums_text (sums_of (replies_to now a))) is)
-
--- asks more of whose replies nothing is written
-pub silent_more : (world : WorldState) (stages : List Stage) (asks asked : List Ask) (now later : WorldState)
-    (text : List ℕ) → Tells world stages now text → asked ≡ asks → later ≡ world_after now asked
-    → Tells world (stages ++ silent_stage asks ∷ []) later text
-silent_more world stages asks asked now later text told is world_is =
-    tells_more world stages (silent_stage asks) now later text text told (world_is ∙ ap (world_after now) is)
-    (sym (append-nil text))
+-- what is made of one item more of a list
+pub map_more : {A B : Type 0} (f : A → B) (items : List A) (at : ℕ) (item : A) → at < length items
+    → map f (take (at + 1) items) ≡ map f (take at items) ++ f (get_or items at item) ∷ []
+map_more f items at item some =
+    ap (map f) (take_more items at item some) ∙ map-append f (take at items) (get_or items at item ∷ [])
 
 -- how many asks a pass has
 pub length-pass_asks : (side : ℕ) → length (pass_asks side) ≡ QUERIES * 3

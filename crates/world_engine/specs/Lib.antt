@@ -9,3 +9,4 @@ pub mod Workload
 pub mod Sums
 pub mod Additions
 pub mod Reports
+pub mod Steps

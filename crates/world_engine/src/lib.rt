@@ -12,6 +12,7 @@ mod report;
 mod runs;
 mod stages;
 mod status;
+mod steps;
 mod sums;
 mod workload;
 

@@ -1,13 +1,13 @@
 //! The report of the large workload: five lines, which its world answers.
 
-ghost use Rattle.std.specs.Prelude.{◌≡◌, ◌≤◌, ◌++◌, length, IfOk, OnOk, All};
-ghost use Rattle.std.specs.List.{flat_map};
+ghost use Rattle.std.specs.Prelude.{◌≡◌, ◌≤◌, ◌++◌, length, map, IfOk, OnOk, All};
 ghost use Rattle.query_script.specs.Asks.{IsAskable};
-ghost use Rattle.query_script.specs.Replies.{reply_text};
 ghost use Rattle.world_engine.specs.Sums.{sums_of, sums_text};
-ghost use Rattle.world_engine.specs.Reports.{replies_to, world_after, stat_stage, report_of};
+ghost use Rattle.world_engine.specs.Reports.{replies_to, world_after, text_of, stat_stage, report_of};
+ghost use Rattle.world_engine.specs.Steps.{stage_of};
 
 use crate::passes::{MOST_REPLIES, sums_of, sums_text};
+use crate::steps::Step;
 use crate::workload::{move_asks, pass_asks};
 use command_line::{Build, MOST_WORKERS};
 use obj_text::{LEAST_GRID, MOST_GRID, grid_mesh};
@@ -85,6 +85,71 @@ fn add(text: &mut Vec<u8>, bytes: &[u8]) -> Result<(), Memory>
     }
 }
 
+/// The steps of the report, one after another.
+const STEPS: [Step; 7] = [
+    Step::Counts,
+    Step::Pass,
+    Step::Moves,
+    Step::Pass,
+    Step::Rebuild,
+    Step::Counts,
+    Step::Pass,
+];
+
+/// Asks a step, with these asks for a pass and for the moves, and adds what is told of it.
+fn add_step<R: Threads + Sync, G: Gate>(
+    rt: &R,
+    alloc: Global,
+    gate: &G,
+    world: &mut World,
+    pass: &[Ask],
+    moves: &[Ask],
+    step: &Step,
+    text: &mut Vec<u8>,
+) -> Result<(), Memory>
+    requires pass { All IsAskable pass.now }
+    requires few { length pass.now ≤ MOST_REPLIES }
+    requires moves { All IsAskable moves.now }
+    ensures text { let stage = stage_of pass.now moves.now step.now in
+        OnOk result (text.new.items ≡ text.old.items ++ stage.text (replies_to world.old stage.asks)) }
+    ensures world { OnOk result (world.new ≡ world_after world.old (stage_of pass.now moves.now step.now).asks) }
+{
+    match step {
+        Step::Counts => add_stat(rt, alloc, gate, world, text),
+        Step::Pass => add_pass(rt, alloc, gate, world, pass, text),
+        Step::Moves => {
+            replies_to(rt, alloc, gate, world, moves)?;
+            Ok(())
+        }
+        Step::Rebuild => {
+            replies_to(rt, alloc, gate, world, &[Ask::Rebuild])?;
+            Ok(())
+        }
+    }
+}
+
+/// What is told of steps, one after another, with these asks for a pass and for the moves.
+fn told<R: Threads + Sync, G: Gate>(
+    rt: &R,
+    alloc: Global,
+    gate: &G,
+    world: &mut World,
+    pass: &[Ask],
+    moves: &[Ask],
+    steps: &[Step],
+) -> Result<Vec<u8>, Memory>
+    requires pass { All IsAskable pass.now }
+    requires few { length pass.now ≤ MOST_REPLIES }
+    requires moves { All IsAskable moves.now }
+    ensures { IfOk result (λ text. text.items ≡ text_of world.old (map (stage_of pass.now moves.now) steps.now)) }
+{
+    let mut text = Vec::new(alloc);
+    for step in steps {
+        add_step(rt, alloc, gate, world, pass, moves, step, &mut text)?;
+    }
+    Ok(text)
+}
+
 /// What the large workload of so many squares along each side writes: the counts of its world, then one pass of
 /// queries; then eight vertices are moved, and there is one more pass; then the tree is built anew, and counts and pass
 /// come again. All is asked through `World::answer`.
@@ -114,13 +179,5 @@ pub fn grid_report<R: Threads + Sync, G: Gate>(
         return Err(Memory);
     };
     let mut world = World::new(rt, alloc, mesh, build, workers, gate)?;
-    let mut text = Vec::new(alloc);
-    add_stat(rt, alloc, gate, &mut world, &mut text)?;
-    add_pass(rt, alloc, gate, &mut world, &pass, &mut text)?;
-    replies_to(rt, alloc, gate, &mut world, &moves)?;
-    add_pass(rt, alloc, gate, &mut world, &pass, &mut text)?;
-    replies_to(rt, alloc, gate, &mut world, &[Ask::Rebuild])?;
-    add_stat(rt, alloc, gate, &mut world, &mut text)?;
-    add_pass(rt, alloc, gate, &mut world, &pass, &mut text)?;
-    Ok(text)
+    told(rt, alloc, gate, &mut world, &pass, &moves, &STEPS)
 }

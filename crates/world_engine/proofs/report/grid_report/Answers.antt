@@ -1,11 +1,13 @@
-use Rattle.std.proofs.Common.{[], ◌∷◌, length, arith, ap, refl, ◌∙◌}
+use Rattle.std.proofs.Common.{arith, ap, subst, length, map, List, IfOk, ◌≡◌, ◌∙◌}
+use Rattle.query_script.specs.declared.asks.Ask.{Ask}
 use Rattle.obj_text.specs.Meshes.{MeshLists}
 use Rattle.obj_text.specs.HeightFields.{field_mesh}
-use Rattle.query_script.specs.declared.asks.Ask.TheVariants.{Rebuild}
-use Rattle.world_index.specs.Worlds.{world_of}
+use Rattle.world_index.specs.Worlds.{WorldState, world_of}
+use Rattle.world_engine.specs.declared.report.TheConstants.{STEPS}
 use Rattle.world_engine.specs.Workload.{move_asks}
-use Rattle.world_engine.specs.Reports.{stat_stage, pass_stage, silent_stage, report_of}
-use Rattle.world_engine.proofs.Telling.{tells_none, tells_more, pass_more, silent_more, length-pass_asks}
+use Rattle.world_engine.specs.Reports.{text_of, report_of}
+use Rattle.world_engine.specs.Steps.{stage_of}
+use Rattle.world_engine.proofs.Telling.{length-pass_asks}
 use Rattle.world_engine.proofs.report.grid_report.Goals as goal
 
 pub move_asks-requires-clause-points : goal.move_asks-requires-clause-points
@@ -13,44 +15,23 @@ unfolding field_mesh
 move_asks-requires-clause-points g c =
     c.points.ensures.points ∙ ap (λ (mesh : MeshLists). mesh.points) c.in_ok-mesh.ensures.mesh
 
-pub add_pass-requires-clause-few : goal.add_pass-requires-clause-few
-add_pass-requires-clause-few g c =
+pub told-requires-clause-few : goal.told-requires-clause-few
+told-requires-clause-few g c =
     omega (arith, length-pass_asks c.args.side, ap length (c.deref.ensures.value ∙ c.in-Ok-pass_asks.ensures.asks))
 
-pub add_pass-requires-2-clause-few : goal.add_pass-requires-2-clause-few
-add_pass-requires-2-clause-few g c =
-    omega (arith, length-pass_asks c.args.side, ap length (c.deref-3.ensures.value ∙ c.in-Ok-pass_asks.ensures.asks))
-
-pub add_pass-requires-3-clause-few : goal.add_pass-requires-3-clause-few
-add_pass-requires-3-clause-few g c =
-    omega (arith, length-pass_asks c.args.side, ap length (c.deref-4.ensures.value ∙ c.in-Ok-pass_asks.ensures.asks))
-
--- the report, stage by stage
+-- the world that is asked is that of the field, and the pass and the moves are the defined ones
 pub returns : goal.returns
 unfolding report_of
 returns g c =
     let side = c.args.side in
-    let start = world_of (field_mesh side) in
-    let pass = c.in-Ok-pass_asks.ensures.asks in
-    let none = tells_none start c.in_ok-world.world c.new-text.result.items
-    (c.in_ok-world.ensures ∙ ap world_of c.in_ok-mesh.ensures.mesh) c.new-text.ensures.items in
-    let opened = tells_more start [] stat_stage _ _ _ _ none
-    c.in_ok-add_stat.ensures.world c.in_ok-add_stat.ensures.text in
-    let first = pass_more start (stat_stage ∷ []) side c.deref.result.now _ _ _ _ opened
-    (c.deref.ensures.value ∙ pass) c.in_ok-add_pass.ensures.world c.in_ok-add_pass.ensures.text in
-    let moved = silent_more start (stat_stage ∷ pass_stage side ∷ []) (move_asks side) c.deref-2.result.now _ _ _ first
-    (c.deref-2.ensures.value ∙ c.in-Ok.ensures.asks) c.in_ok-replies_to.ensures.world in
-    let second = pass_more start (stat_stage ∷ pass_stage side ∷ silent_stage (move_asks side) ∷ []) side
-    c.deref-3.result.now _ _ _ _ moved
-    (c.deref-3.ensures.value ∙ pass) c.in_ok-add_pass-2.ensures.world c.in_ok-add_pass-2.ensures.text in
-    let built = silent_more start
-    (stat_stage ∷ pass_stage side ∷ silent_stage (move_asks side) ∷ pass_stage side ∷ []) (Rebuild ∷ [])
-    (Rebuild ∷ []) _ _ _ second refl c.in_ok-replies_to-2.ensures.world in
-    let counted = tells_more start
-    (stat_stage ∷ pass_stage side ∷ silent_stage (move_asks side) ∷ pass_stage side ∷ silent_stage (Rebuild ∷ []) ∷ [])
-    stat_stage _ _ _ _ built c.in_ok-add_stat-2.ensures.world c.in_ok-add_stat-2.ensures.text in
-    let third = pass_more start
-    (stat_stage ∷ pass_stage side ∷ silent_stage (move_asks side) ∷ pass_stage side ∷ silent_stage (Rebuild ∷ [])
-    ∷ stat_stage ∷ []) side c.deref-4.result.now _ _ _ _ counted
-    (c.deref-4.ensures.value ∙ pass) c.in_ok-add_pass-3.ensures.world c.in_ok-add_pass-3.ensures.text in
-    record { report = third.text_is }
+    let world = c.in_ok-world.ensures ∙ ap world_of c.in_ok-mesh.ensures.mesh in
+    let pass = c.deref.ensures.value ∙ c.in-Ok-pass_asks.ensures.asks in
+    let moves = c.deref-2.ensures.value ∙ c.in-Ok.ensures.asks in
+    record {
+      report = subst (λ (asks : List Ask). IfOk c.told.result (λ text. text.items
+          ≡ text_of (world_of (field_mesh side)) (map (stage_of asks (move_asks side)) STEPS))) pass
+          (subst (λ (asks : List Ask). IfOk c.told.result (λ text. text.items
+          ≡ text_of (world_of (field_mesh side)) (map (stage_of c.deref.result.now asks) STEPS))) moves
+          (subst (λ (start : WorldState). IfOk c.told.result (λ text. text.items
+          ≡ text_of start (map (stage_of c.deref.result.now c.deref-2.result.now) STEPS))) world c.told.ensures));
+    }
