@@ -7,7 +7,7 @@
    of the command line; ends that are no answer, as a mesh that is not there, by both as programs; and the large workload,
    `--grid N`.
 2. Real files of other people's tools, in FOLDER: at 64 steps to a unit, at the largest unit at which the file fits, and at
-   the smallest; skipped with a message where the folder is missing.
+   the smallest; none where no folder is named.
 3. Random small meshes and scripts from a fixed seed, faulty ones among them, by both builds and several counts of workers;
    some of the meshes also among so many rows that are passed over that the program reads the text in parts.
 
@@ -30,7 +30,6 @@ import oracle
 
 HERE = os.path.dirname(os.path.abspath(__file__))
 TOP = os.path.dirname(HERE)
-OBJS = os.path.join(TOP, "..", "shared", "objs")
 
 # ------------------------------------------------------------------------------------------------ worked rows
 
@@ -386,8 +385,8 @@ def largest_unit(text):
 
 
 def compare_real_files(program, chance, folder):
-    if not os.path.isdir(folder):
-        print(f"real files: skipped, there is no folder {os.path.normpath(folder)}")
+    if folder is None:
+        print("real files: none, since no folder is named by --files")
         return
     print("real files:" if program.has_unit else "real files, at 64 alone, since the program knows no --unit:")
     for name, (count, groups) in REAL.items():
@@ -570,7 +569,7 @@ def compare_long(program, chance, count):
 def main():
     parser = argparse.ArgumentParser(description="Compares the program with the oracle.")
     parser.add_argument("--program", default=os.path.join(TOP, "crates", "world_main", "out", "world_main"))
-    parser.add_argument("--files", default=OBJS, metavar="FOLDER", help="of the real files")
+    parser.add_argument("--files", metavar="FOLDER", help="of real files, *.obj")
     parser.add_argument("--random", type=int, default=1000, metavar="COUNT", help="how many random meshes")
     parser.add_argument("--long", type=int, default=12, metavar="COUNT", help="how many long ones")
     parser.add_argument("--seed", type=int, default=1)
