@@ -23,6 +23,7 @@ use Rattle.box_handoff.specs.LiveNodes.{Shown, slotted}
 use Rattle.box_handoff.specs.Entries.{Numbers, numbers, one, frame, grown, after, moved, worker_of}
 use Rattle.box_handoff.specs.Rule.{Rule, Shows, full, bit_on, side_no, slot, by_slot, by_word}
 use Rattle.box_handoff.specs.Plays.{Mine, mine, next_view, load_of, lent, without, Arrived}
+use Rattle.box_handoff.proofs.Sites.{Site, site_of}
 use Rattle.box_handoff.proofs.Standing.{held_worker, phase_is, stands, few_after, arrived_opened}
 use Rattle.box_handoff.proofs.WordLaws.{with_bit, side_set, side_kept, node_kept, batch_kept, place_set, side_le}
 use Rattle.box_handoff.proofs.SlotLaws.{slots_apart}
@@ -38,17 +39,11 @@ module _ (g : Given) (id : ℕ) (me : Mine) (is : me.0 ≡ one g (mine me)) (l :
   abbrev N : Numbers
   N = numbers g
 
-  -- the node's word and the side's slot
-  abbrev place : ℕ
-  place = f.batches + N.number l.split
+  -- where it works, on the side
+  abbrev here : Site
+  here = site_of g l.split l.side
 
-  abbrev spot : ℕ
-  spot = slot (N.number l.split) l.side
-
-  -- whether the child has a slot, and the bit that is set
-  abbrev has : Bool
-  has = slotted f l.split l.side
-
+  -- the bit that is set
   abbrev bit : ℕ
   bit = 2 + side_no l.side
 
@@ -62,7 +57,7 @@ module _ (g : Given) (id : ℕ) (me : Mine) (is : me.0 ≡ one g (mine me)) (l :
 
     -- whether the other side had arrived
     abbrev found : Bool
-    found = bit_on (slice_index s.words place) (2 + side_no (other l.side))
+    found = bit_on (slice_index s.words here.word) (2 + side_no (other l.side))
 
     -- the event of the machine is this one
     event_is : event f (mine me).number m ≡ done
@@ -85,14 +80,15 @@ module _ (g : Given) (id : ℕ) (me : Mine) (is : me.0 ≡ one g (mine me)) (l :
         ∙ sym (ap (λ (p : Phase). moved f (worker_of (mine me)) (Arrive found) p) phase))
 
     -- the table shows the state after it
-    shown : Shows f N (with_bit s.words place bit) (homes_set has s.homes spot (some (packed l.side l.packet))) done
+    shown : Shows f N (with_bit s.words here.word bit)
+        (homes_set here.has s.homes here.spot (some (packed l.side l.packet))) done
     unfolding core.arrive
     shown =
         let c = h.shows.word_count in
         let n = h.numbered in
         let le : side_no l.side ≤ 1 = side_le l.side in record {
           word_count = length-set s.words _ _ ∙ c;
-          slot_count = length_homes has s.homes spot (some (packed l.side l.packet)) ∙ h.shows.slot_count;
+          slot_count = length_homes here.has s.homes here.spot (some (packed l.side l.packet)) ∙ h.shows.slot_count;
           claims = batch_kept f N n s.words l.split bit c seen m.claimed h.shows.claims;
           opened = side_kept f N n s.words l.split bit c seen 0 (by_word f m.opened)
               (λ d z. let ld : side_no d ≤ 1 = side_le d in omega arith) h.shows.opened;
@@ -103,11 +99,11 @@ module _ (g : Given) (id : ℕ) (me : Mine) (is : me.0 ≡ one g (mine me)) (l :
           returned = node_kept f N n s.words l.split bit c seen 6 m.returned (λ z. omega arith) h.shows.returned;
           places = place_set f N n s.homes m.place l.split l.side (some (packed l.side l.packet)) (Holds l.packet)
               h.shows.slot_count seen (λ t e lt on. slots_apart g h.given l.split l.side t e seen lt on)
-              (full l.packet) h.shows.places has refl;
+              (full l.packet) h.shows.places here.has refl;
         }
 
     -- a side that has arrived is opened, so a bit tells whether its child has a slot
-    across : found ≡ true → bit_on (slice_index s.words place) (7 + side_no (other l.side))
+    across : found ≡ true → bit_on (slice_index s.words here.word) (7 + side_no (other l.side))
         ≡ slotted f l.split (other l.side)
     across came = sym (h.shows.handed l.split (other l.side) seen)
         ∙ ap (λ (b : Bool). b && slotted f l.split (other l.side))
@@ -115,45 +111,47 @@ module _ (g : Given) (id : ℕ) (me : Mine) (is : me.0 ≡ one g (mine me)) (l :
         (h.shows.arrived l.split (other l.side) seen ∙ came))
 
   -- the step on that word is allowed
-  arriving_at : Allows (Rule g) slots id me place (λ n. bit_or n (2 ^ bit))
-      (Arrived (step slots place (2 ^ bit) 0 none) me)
+  arriving_at : Allows (Rule g) slots id me here.word (λ n. bit_or n (2 ^ bit))
+      (Arrived (step slots here.word (2 ^ bit) 0 none) me)
   arriving_at s h sized at fits =
       let ev = Arrive (found s h at) in
       let e = event_is s h at in
       let w = worker_is s h at in (
         one g (grown f (mine me) ev),
-        returns has,
-        returns_valid has s.homes me.1,
+        returns here.has,
+        returns_valid here.has s.homes me.1,
         stands g id me is s h at ev (done s h at) e w _ _
-            (subst (λ (x : List (Maybe SlotPacket)). Shows f N (with_bit s.words place bit) x (done s h at))
-            (sym (returns_homes has s.homes me.1 spot (packed l.side l.packet) holds)) (shown s h at)),
+            (subst (λ (x : List (Maybe SlotPacket)). Shows f N (with_bit s.words here.word bit) x (done s h at))
+            (sym (returns_homes here.has s.homes me.1 here.spot (packed l.side l.packet) holds)) (shown s h at)),
         (
-          ap (λ (c : List (ℕ × SlotPacket)). (one g (grown f (mine me) ev), c)) (returns_carried has me.1)
+          ap (λ (c : List (ℕ × SlotPacket)). (one g (grown f (mine me) ev), c)) (returns_carried here.has me.1)
               ∙ ap (λ (x : Given). (
                 one x (grown (frame x) (mine me) ev),
                 without (slotted (frame x) l.split l.side) me.1,
               )) (sym (ap (λ (x : View). x.given) is))
               ∙ ap (λ (x : Load). (
                 next_view me
-                    (Arrive (bit_on (slice_index s.words place) (2 + side_no (other x.side)))),
+                    (Arrive (bit_on (slice_index s.words here.word) (2 + side_no (other x.side)))),
                 without (slotted (frame me.0.given) x.split x.side) me.1,
               ))
               (sym (ap load_of phase)),
           few_after g id me is s h at ev (done s h at) e w,
-          subst (λ (x : Load). bit_on (slice_index s.words place) (2 + side_no (other x.side)) ≡ true →
-              bit_on (slice_index s.words place) (7 + side_no (other x.side))
+          subst (λ (x : Load). bit_on (slice_index s.words here.word) (2 + side_no (other x.side)) ≡ true →
+              bit_on (slice_index s.words here.word) (7 + side_no (other x.side))
               ≡ slotted (frame me.0.given) x.split (other x.side)) (sym (ap load_of phase))
               (subst (λ (x : Given). found s h at ≡ true →
-              bit_on (slice_index s.words place) (7 + side_no (other l.side)) ≡ slotted (frame x) l.split (other l.side))
+              bit_on (slice_index s.words here.word) (7 + side_no (other l.side))
+              ≡ slotted (frame x) l.split (other l.side))
               (sym (ap (λ (x : View). x.given) is)) (across s h at)),
         ),
       )
 
   -- what the step on the node's word requires
-  pub arriving : (word mask : ℕ) → word ≡ place → mask ≡ 2 ^ bit →
+  pub arriving : (word mask : ℕ) → word ≡ here.word → mask ≡ 2 ^ bit →
       Allows (Rule g) slots id me word (λ n. bit_or n mask) (Arrived (step slots word mask 0 none) me)
   arriving word mask w k =
       subst (λ (x : ℕ). Allows (Rule g) slots id me x (λ n. bit_or n mask) (Arrived (step slots x mask 0 none) me))
       (sym w)
-      (subst (λ (x : ℕ). Allows (Rule g) slots id me place (λ n. bit_or n x) (Arrived (step slots place x 0 none) me))
+      (subst (λ (x : ℕ). Allows (Rule g) slots id me here.word (λ n. bit_or n x)
+      (Arrived (step slots here.word x 0 none) me))
       (sym k) arriving_at)

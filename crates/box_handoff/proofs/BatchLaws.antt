@@ -179,7 +179,7 @@ took_so f new k t was b e is = subst (λ (x : Bool). worker_of (mine new) ≡ re
     (if x then [] else f.batch k) t) e is
 
 -- one step is a climb
-pub climbed_one : (g : Given) (old new : Seat SlotPacket View) (ev : Event) → new.table_id ≡ old.table_id →
+climbed_one : (g : Given) (old new : Seat SlotPacket View) (ev : Event) → new.table_id ≡ old.table_id →
     new.id ≡ old.id → Did g old.me new.me ev → new.me.1 ≡ [] → Climbed g old new
 climbed_one g old new ev t i d home = record {
   table = t;
@@ -190,6 +190,11 @@ climbed_one g old new ev t i d home = record {
       (mine old.me) old.me new.me ev (grew_none (frame g) (mine old.me)) d;
   small = λ h. d.small;
 }
+
+-- and so is a climb with a step behind it
+pub climbed_on : (g : Given) (a b c : Seat SlotPacket View) (ev : Event) → Climbed g a b → c.table_id ≡ b.table_id →
+    c.id ≡ b.id → Did g b.me c.me ev → c.me.1 ≡ b.me.1 → Climbed g a c
+climbed_on g a b c ev h t i d out = climbed_all g a b c h (climbed_one g b c ev t i d (out ∙ h.home))
 
 -- a worker that has not begun has a small tally
 pub fresh_small : (m : Mine) → worker_of (mine m) ≡ fresh → IsSmall (mine m).tally

@@ -1,5 +1,5 @@
 -- To collect at a node is the machine's event on the state that is shown.
-use Rattle.std.proofs.Common.{◌≡◌, ℕ, ◌+◌, ◌^◌, ◌≤◌, Bool, true, List, sym, refl, ap, ◌∙◌, subst, arith}
+use Rattle.std.proofs.Common.{◌≡◌, ℕ, ◌+◌, ◌^◌, ◌≤◌, true, List, sym, refl, ap, ◌∙◌, subst, arith}
 use Rattle.std.specs.Prelude.{bit_or}
 use Rattle.std.proofs.Math.ListN.{length-set}
 use mathlib.Core.Option.{Option as Maybe, none, some}
@@ -26,6 +26,7 @@ use Rattle.box_handoff.specs.Entries.{Numbers, numbers, one, frame, grown, after
 use Rattle.box_handoff.specs.Rule.{Rule, Shows, out, side_no, slot, by_slot, by_word}
 use Rattle.box_handoff.specs.Plays.{Mine, mine, next_view, load_of, lent, Collected}
 use Rattle.box_handoff.proofs.FrameOf.{met}
+use Rattle.box_handoff.proofs.Sites.{Site, site_of}
 use Rattle.box_handoff.proofs.Standing.{held_worker, small, phase_is, stands, few_after, is_full}
 use Rattle.box_handoff.proofs.WordLaws.{with_bit, side_set, side_kept, node_kept, batch_kept, place_set, side_le}
 use Rattle.box_handoff.proofs.SlotLaws.{slots_apart}
@@ -39,17 +40,11 @@ module _ (g : Given) (id : ℕ) (me : Mine) (is : me.0 ≡ one g (mine me)) (l :
   abbrev N : Numbers
   N = numbers g
 
-  -- the node's word and the other side's slot
-  abbrev place : ℕ
-  place = f.batches + N.number l.split
+  -- where it works, on the other side
+  abbrev here : Site
+  here = site_of g l.split (other l.side)
 
-  abbrev spot : ℕ
-  spot = slot (N.number l.split) (other l.side)
-
-  -- whether that child has a slot, and the bit that is set
-  abbrev has : Bool
-  has = slotted f l.split (other l.side)
-
+  -- the bit that is set
   abbrev bit : ℕ
   bit = 4 + side_no (other l.side)
 
@@ -76,7 +71,7 @@ module _ (g : Given) (id : ℕ) (me : Mine) (is : me.0 ≡ one g (mine me)) (l :
         (phase_is g id me is s h at (Second l) phase)
 
     -- so it is in its slot
-    there : has ≡ true → get_elem? s.homes spot ≡ some (some (packed (other l.side) theirs))
+    there : here.has ≡ true → get_elem? s.homes here.spot ≡ some (some (packed (other l.side) theirs))
     there on = let was = h.shows.places l.split (other l.side) seen on in
         was.1 ∙ ap some (is_full (other l.side) was.0 (m.place l.split (other l.side)) theirs was.2 stood)
 
@@ -95,14 +90,14 @@ module _ (g : Given) (id : ℕ) (me : Mine) (is : me.0 ≡ one g (mine me)) (l :
         ∙ sym (ap (λ (p : Phase). moved f (worker_of (mine me)) Collect p) phase))
 
     -- the table shows the state after it
-    shown : Shows f N (with_bit s.words place bit) (homes_set has s.homes spot none) done
+    shown : Shows f N (with_bit s.words here.word bit) (homes_set here.has s.homes here.spot none) done
     unfolding core.collect
     shown =
         let c = h.shows.word_count in
         let n = h.numbered in
         let le : side_no (other l.side) ≤ 1 = side_le (other l.side) in record {
           word_count = length-set s.words _ _ ∙ c;
-          slot_count = length_homes has s.homes spot none ∙ h.shows.slot_count;
+          slot_count = length_homes here.has s.homes here.spot none ∙ h.shows.slot_count;
           claims = batch_kept f N n s.words l.split bit c seen m.claimed h.shows.claims;
           opened = side_kept f N n s.words l.split bit c seen 0 (by_word f m.opened)
               (λ d z. let ld : side_no d ≤ 1 = side_le d in omega arith) h.shows.opened;
@@ -114,24 +109,24 @@ module _ (g : Given) (id : ℕ) (me : Mine) (is : me.0 ≡ one g (mine me)) (l :
           returned = node_kept f N n s.words l.split bit c seen 6 m.returned (λ z. omega arith) h.shows.returned;
           places = place_set f N n s.homes m.place l.split (other l.side) none (Out (mine me).number)
               h.shows.slot_count seen (λ t e lt on. slots_apart g h.given l.split (other l.side) t e seen lt on)
-              (out (mine me).number) h.shows.places has refl;
+              (out (mine me).number) h.shows.places here.has refl;
         }
 
   -- the step on that word is allowed
-  collecting_at : Allows (Rule g) slots id me place (λ n. bit_or n (2 ^ bit))
-      (Collected (step slots place (2 ^ bit) 0 none) me)
+  collecting_at : Allows (Rule g) slots id me here.word (λ n. bit_or n (2 ^ bit))
+      (Collected (step slots here.word (2 ^ bit) 0 none) me)
   collecting_at s h sized at fits =
       let e = event_is s h at in
       let w = worker_is s h at in (
         one g (grown f (mine me) Collect),
-        lends has spot (packed (other l.side) theirs),
-        lends_valid has s.homes me.1 spot (packed (other l.side) theirs) (there s h at),
+        lends here.has here.spot (packed (other l.side) theirs),
+        lends_valid here.has s.homes me.1 here.spot (packed (other l.side) theirs) (there s h at),
         stands g id me is s h at Collect (done s h at) e w _ _
-            (subst (λ (x : List (Maybe SlotPacket)). Shows f N (with_bit s.words place bit) x (done s h at))
-            (sym (lends_homes has s.homes me.1 spot (packed (other l.side) theirs))) (shown s h at)),
+            (subst (λ (x : List (Maybe SlotPacket)). Shows f N (with_bit s.words here.word bit) x (done s h at))
+            (sym (lends_homes here.has s.homes me.1 here.spot (packed (other l.side) theirs))) (shown s h at)),
         (
           ap (λ (c : List (ℕ × SlotPacket)). (one g (grown f (mine me) Collect), c))
-              (lends_carried has me.1 spot (packed (other l.side) theirs))
+              (lends_carried here.has me.1 here.spot (packed (other l.side) theirs))
               ∙ ap (λ (x : Given). (
                 one x (grown (frame x) (mine me) Collect),
                 lent (slotted (frame x) l.split (other l.side)) (slot ((numbers x).number l.split) (other l.side))
@@ -150,10 +145,12 @@ module _ (g : Given) (id : ℕ) (me : Mine) (is : me.0 ≡ one g (mine me)) (l :
       )
 
   -- what the step on the node's word requires
-  pub collecting : (word mask : ℕ) → word ≡ place → mask ≡ 2 ^ bit →
+  pub collecting : (word mask : ℕ) → word ≡ here.word → mask ≡ 2 ^ bit →
       Allows (Rule g) slots id me word (λ n. bit_or n mask) (Collected (step slots word mask 0 none) me)
   collecting word mask w k =
-      subst (λ (x : ℕ). Allows (Rule g) slots id me x (λ n. bit_or n mask) (Collected (step slots x mask 0 none) me))
+      subst (λ (x : ℕ). Allows (Rule g) slots id me x (λ n. bit_or n mask)
+      (Collected (step slots x mask 0 none) me))
       (sym w)
-      (subst (λ (x : ℕ). Allows (Rule g) slots id me place (λ n. bit_or n x) (Collected (step slots place x 0 none) me))
+      (subst (λ (x : ℕ). Allows (Rule g) slots id me here.word (λ n. bit_or n x)
+      (Collected (step slots here.word x 0 none) me))
       (sym k) collecting_at)

@@ -1,5 +1,5 @@
 -- To leave a node is the machine's event on the state that is shown.
-use Rattle.std.proofs.Common.{◌≡◌, ℕ, ◌+◌, ◌≤◌, Bool, List, [], sym, refl, ap, ◌∙◌, subst, arith}
+use Rattle.std.proofs.Common.{◌≡◌, ℕ, ◌≤◌, List, [], sym, refl, ap, ◌∙◌, subst, arith}
 use Rattle.std.specs.Prelude.{bit_or}
 use Rattle.std.proofs.Math.ListN.{length-set}
 use mathlib.Core.Option.{Option as Maybe, none, some}
@@ -24,6 +24,7 @@ use Rattle.box_handoff.specs.LiveNodes.{Shown, slotted}
 use Rattle.box_handoff.specs.Entries.{Numbers, numbers, one, frame, grown, after, moved, worker_of}
 use Rattle.box_handoff.specs.Rule.{Rule, Shows, full, side_no, slot, by_slot, by_word}
 use Rattle.box_handoff.specs.Plays.{Mine, mine, next_view, load_of, lent, without, DidLeave}
+use Rattle.box_handoff.proofs.Sites.{Site, site_of}
 use Rattle.box_handoff.proofs.Standing.{held_worker, phase_is, stands, few_after}
 use Rattle.box_handoff.proofs.WordLaws.{with_bit, side_kept, node_set, batch_kept, place_set, side_le}
 use Rattle.box_handoff.proofs.SlotLaws.{slots_apart}
@@ -39,16 +40,9 @@ module _ (g : Given) (id : ℕ) (me : Mine) (is : me.0 ≡ one g (mine me)) (l :
   abbrev N : Numbers
   N = numbers g
 
-  -- the node's word and the other side's slot
-  abbrev place : ℕ
-  place = f.batches + N.number l.split
-
-  abbrev spot : ℕ
-  spot = slot (N.number l.split) (other l.side)
-
-  -- whether that child has a slot
-  abbrev has : Bool
-  has = slotted f l.split (other l.side)
+  -- where it works, on the other side
+  abbrev here : Site
+  here = site_of g l.split (other l.side)
 
   module _ (s : table.State SlotPacket View) (h : Rule g s) (at : get_elem? s.views id ≡ some me.0) where
     abbrev m : State
@@ -72,13 +66,15 @@ module _ (g : Given) (id : ℕ) (me : Mine) (is : me.0 ≡ one g (mine me)) (l :
         ∙ sym (ap (λ (p : Phase). moved f (worker_of (mine me)) Leave p) phase))
 
     -- the table shows the state after it
-    shown : Shows f N (with_bit s.words place 6) (homes_set has s.homes spot (some (packed (other l.side) found))) done
+    shown : Shows f N (with_bit s.words here.word 6)
+        (homes_set here.has s.homes here.spot (some (packed (other l.side) found))) done
     unfolding core.leave
     shown =
         let c = h.shows.word_count in
         let n = h.numbered in record {
           word_count = length-set s.words _ _ ∙ c;
-          slot_count = length_homes has s.homes spot (some (packed (other l.side) found)) ∙ h.shows.slot_count;
+          slot_count = length_homes here.has s.homes here.spot (some (packed (other l.side) found))
+              ∙ h.shows.slot_count;
           claims = batch_kept f N n s.words l.split 6 c seen m.claimed h.shows.claims;
           opened = side_kept f N n s.words l.split 6 c seen 0 (by_word f m.opened)
               (λ d z. let ld : side_no d ≤ 1 = side_le d in omega arith) h.shows.opened;
@@ -92,22 +88,22 @@ module _ (g : Given) (id : ℕ) (me : Mine) (is : me.0 ≡ one g (mine me)) (l :
           places = place_set f N n s.homes m.place l.split (other l.side) (some (packed (other l.side) found))
               (Holds found) h.shows.slot_count seen
               (λ t e lt on. slots_apart g h.given l.split (other l.side) t e seen lt on) (full found) h.shows.places
-              has refl;
+              here.has refl;
         }
 
   -- the step on that word is allowed
-  leaving_at : Allows (Rule g) slots id me place (λ n. bit_or n 64) (DidLeave (step slots place 64 0 none) me)
+  leaving_at : Allows (Rule g) slots id me here.word (λ n. bit_or n 64) (DidLeave (step slots here.word 64 0 none) me)
   leaving_at s h sized at fits =
       let e = event_is s h at in
       let w = worker_is s h at in (
         one g (grown f (mine me) Leave),
-        returns has,
-        returns_valid has s.homes me.1,
+        returns here.has,
+        returns_valid here.has s.homes me.1,
         stands g id me is s h at Leave (done s h at) e w _ _
-            (subst (λ (x : List (Maybe SlotPacket)). Shows f N (with_bit s.words place 6) x (done s h at))
-            (sym (returns_homes has s.homes me.1 spot (packed (other l.side) found) holds)) (shown s h at)),
+            (subst (λ (x : List (Maybe SlotPacket)). Shows f N (with_bit s.words here.word 6) x (done s h at))
+            (sym (returns_homes here.has s.homes me.1 here.spot (packed (other l.side) found) holds)) (shown s h at)),
         (
-          ap (λ (c : List (ℕ × SlotPacket)). (one g (grown f (mine me) Leave), c)) (returns_carried has me.1)
+          ap (λ (c : List (ℕ × SlotPacket)). (one g (grown f (mine me) Leave), c)) (returns_carried here.has me.1)
               ∙ ap (λ (x : Given). (
                 one x (grown (frame x) (mine me) Leave),
                 without (slotted (frame x) l.split (other l.side)) me.1,
@@ -121,10 +117,11 @@ module _ (g : Given) (id : ℕ) (me : Mine) (is : me.0 ≡ one g (mine me)) (l :
       )
 
   -- what the step on the node's word requires
-  pub leaving : (word mask : ℕ) → word ≡ place → mask ≡ 64 →
+  pub leaving : (word mask : ℕ) → word ≡ here.word → mask ≡ 64 →
       Allows (Rule g) slots id me word (λ n. bit_or n mask) (DidLeave (step slots word mask 0 none) me)
   leaving word mask w k =
       subst (λ (x : ℕ). Allows (Rule g) slots id me x (λ n. bit_or n mask) (DidLeave (step slots x mask 0 none) me))
       (sym w)
-      (subst (λ (x : ℕ). Allows (Rule g) slots id me place (λ n. bit_or n x) (DidLeave (step slots place x 0 none) me))
+      (subst (λ (x : ℕ). Allows (Rule g) slots id me here.word (λ n. bit_or n x)
+      (DidLeave (step slots here.word x 0 none) me))
       (sym k) leaving_at)

@@ -12,6 +12,7 @@ pub mod WordLaws
 pub mod HandLaws
 pub mod SlotLaws
 pub mod RestLaws
+pub mod Sites
 pub mod Standing
 pub mod TakeLaws
 pub mod OpenLaws

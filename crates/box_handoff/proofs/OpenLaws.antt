@@ -25,6 +25,7 @@ use Rattle.box_handoff.specs.Entries.{Numbers, numbers, one, frame, grown, after
 use Rattle.box_handoff.specs.Rule.{Rule, Shows, ShowsSide, out, side_no, slot, opened_bit, by_slot, by_word}
 use Rattle.box_handoff.specs.Plays.{Mine, mine, next_view, load_of, lent, DidOpen}
 use Rattle.box_handoff.proofs.FrameOf.{carried}
+use Rattle.box_handoff.proofs.Sites.{Site, site_of}
 use Rattle.box_handoff.proofs.Standing.{held_worker, small, phase_is, stands, few_after, is_empty}
 use Rattle.box_handoff.proofs.WordLaws.{with_bit, side_set, side_kept, node_kept, batch_kept, place_set, side_le, side_equal}
 use Rattle.box_handoff.proofs.HandLaws.{opened_apart, slot_more, slot_same, word_more, word_same}
@@ -39,19 +40,13 @@ module _ (g : Given) (id : ℕ) (me : Mine) (is : me.0 ≡ one g (mine me)) (l :
   abbrev N : Numbers
   N = numbers g
 
-  -- the node's word and the side's slot
-  abbrev place : ℕ
-  place = f.batches + N.number l.split
+  -- where it works, on the side
+  abbrev here : Site
+  here = site_of g l.split l.side
 
-  abbrev spot : ℕ
-  spot = slot (N.number l.split) l.side
-
-  -- whether the child has a slot, and the bit that is set
-  abbrev has : Bool
-  has = slotted f l.split l.side
-
+  -- the bit that is set
   abbrev bit : ℕ
-  bit = opened_bit has + side_no l.side
+  bit = opened_bit here.has + side_no l.side
 
   module _ (s : table.State SlotPacket View) (h : Rule g s) (at : get_elem? s.views id ≡ some me.0) where
     abbrev m : State
@@ -75,20 +70,21 @@ module _ (g : Given) (id : ℕ) (me : Mine) (is : me.0 ≡ one g (mine me)) (l :
         ∙ sym (ap (λ (p : Phase). moved f (worker_of (mine me)) Open p) phase))
 
     -- its slot is at home, and blank
-    there : has ≡ true → get_elem? s.homes spot ≡ some (some blank)
+    there : here.has ≡ true → get_elem? s.homes here.spot ≡ some (some blank)
     there on = let was = h.shows.places l.split l.side seen on in was.1 ∙ ap some
         (is_empty l.side was.0 (m.place l.split l.side) was.2
         (carried g h.given m (mine me).number l (small g id me is s h at) h.lawful
         (phase_is g id me is s h at (Carry l) phase)))
 
     abbrev words' : List ℕ
-    words' = with_bit s.words place bit
+    words' = with_bit s.words here.word bit
 
     abbrev opened' : ℕ → Side → Bool
     opened' = put_side m.opened l.split l.side true
 
     -- the bits of the sides that are opened, by whether the child has a slot
-    told : (b : Bool) → has ≡ b → ShowsSide f N (with_bit s.words place (opened_bit b + side_no l.side)) 0
+    told : (b : Bool) → here.has ≡ b →
+        ShowsSide f N (with_bit s.words here.word (opened_bit b + side_no l.side)) 0
         (by_word f opened')
     told true on = side_equal f N _ 0 (by_word f m.opened) (by_word f opened') (word_same f m.opened l.split l.side on)
         (side_kept f N h.numbered s.words l.split (7 + side_no l.side) h.shows.word_count seen 0 (by_word f m.opened)
@@ -98,7 +94,8 @@ module _ (g : Given) (id : ℕ) (me : Mine) (is : me.0 ≡ one g (mine me)) (l :
         (side_set f N h.numbered s.words l.split (0 + side_no l.side) h.shows.word_count seen 0 l.side
         (by_word f m.opened) refl h.shows.opened)
 
-    handed : (b : Bool) → has ≡ b → ShowsSide f N (with_bit s.words place (opened_bit b + side_no l.side)) 7
+    handed : (b : Bool) → here.has ≡ b →
+        ShowsSide f N (with_bit s.words here.word (opened_bit b + side_no l.side)) 7
         (by_slot f opened')
     handed true on = side_equal f N _ 7 (put_side (by_slot f m.opened) l.split l.side true) (by_slot f opened')
         (slot_more f m.opened l.split l.side on)
@@ -111,19 +108,19 @@ module _ (g : Given) (id : ℕ) (me : Mine) (is : me.0 ≡ one g (mine me)) (l :
 
     -- another bit is none of these
     apart : (k : ℕ) → 2 ≤ k → k ≤ 6 → k ≢ bit
-    apart k low high = opened_apart has l.side k low high
+    apart k low high = opened_apart here.has l.side k low high
 
     -- the table shows the state after it
-    shown : Shows f N words' (homes_set has s.homes spot none) done
+    shown : Shows f N words' (homes_set here.has s.homes here.spot none) done
     unfolding core.open_side
     shown =
         let c = h.shows.word_count in
         let n = h.numbered in record {
           word_count = length-set s.words _ _ ∙ c;
-          slot_count = length_homes has s.homes spot none ∙ h.shows.slot_count;
+          slot_count = length_homes here.has s.homes here.spot none ∙ h.shows.slot_count;
           claims = batch_kept f N n s.words l.split bit c seen m.claimed h.shows.claims;
-          opened = told has refl;
-          handed = handed has refl;
+          opened = told here.has refl;
+          handed = handed here.has refl;
           arrived = side_kept f N n s.words l.split bit c seen 2 m.arrived
               (λ d. let ld = side_le d in apart (2 + side_no d) (omega arith) (omega (arith, ld))) h.shows.arrived;
           collected = side_kept f N n s.words l.split bit c seen 4 m.collected
@@ -132,23 +129,24 @@ module _ (g : Given) (id : ℕ) (me : Mine) (is : me.0 ≡ one g (mine me)) (l :
               h.shows.returned;
           places = place_set f N n s.homes m.place l.split l.side none (Out (mine me).number) h.shows.slot_count seen
               (λ t e lt on. slots_apart g h.given l.split l.side t e seen lt on) (out (mine me).number) h.shows.places
-              has refl;
+              here.has refl;
         }
 
   -- the step on that word is allowed
-  opening_at : Allows (Rule g) slots id me place (λ n. bit_or n (2 ^ bit))
-      (DidOpen (step slots place (2 ^ bit) 0 none) me)
+  opening_at : Allows (Rule g) slots id me here.word (λ n. bit_or n (2 ^ bit))
+      (DidOpen (step slots here.word (2 ^ bit) 0 none) me)
   opening_at s h sized at fits =
       let e = event_is s h at in
       let w = worker_is s h at in (
         one g (grown f (mine me) Open),
-        lends has spot blank,
-        lends_valid has s.homes me.1 spot blank (there s h at),
+        lends here.has here.spot blank,
+        lends_valid here.has s.homes me.1 here.spot blank (there s h at),
         stands g id me is s h at Open (done s h at) e w _ _
-            (subst (λ (x : List (Maybe SlotPacket)). Shows f N (with_bit s.words place bit) x (done s h at))
-            (sym (lends_homes has s.homes me.1 spot blank)) (shown s h at)),
+            (subst (λ (x : List (Maybe SlotPacket)). Shows f N (with_bit s.words here.word bit) x (done s h at))
+            (sym (lends_homes here.has s.homes me.1 here.spot blank)) (shown s h at)),
         (
-          ap (λ (c : List (ℕ × SlotPacket)). (one g (grown f (mine me) Open), c)) (lends_carried has me.1 spot blank)
+          ap (λ (c : List (ℕ × SlotPacket)). (one g (grown f (mine me) Open), c))
+              (lends_carried here.has me.1 here.spot blank)
               ∙ ap (λ (x : Given). (
                 one x (grown (frame x) (mine me) Open),
                 lent (slotted (frame x) l.split l.side) (slot ((numbers x).number l.split) l.side) blank me.1,
@@ -163,10 +161,11 @@ module _ (g : Given) (id : ℕ) (me : Mine) (is : me.0 ≡ one g (mine me)) (l :
       )
 
   -- what the step on the node's word requires
-  pub opening : (word mask : ℕ) → word ≡ place → mask ≡ 2 ^ bit →
+  pub opening : (word mask : ℕ) → word ≡ here.word → mask ≡ 2 ^ bit →
       Allows (Rule g) slots id me word (λ n. bit_or n mask) (DidOpen (step slots word mask 0 none) me)
   opening word mask w k =
       subst (λ (x : ℕ). Allows (Rule g) slots id me x (λ n. bit_or n mask) (DidOpen (step slots x mask 0 none) me))
       (sym w)
-      (subst (λ (x : ℕ). Allows (Rule g) slots id me place (λ n. bit_or n x) (DidOpen (step slots place x 0 none) me))
+      (subst (λ (x : ℕ). Allows (Rule g) slots id me here.word (λ n. bit_or n x)
+      (DidOpen (step slots here.word x 0 none) me))
       (sym k) opening_at)

@@ -128,36 +128,6 @@ fn carry_batch<W: Ways>(
     tally
 }
 
-/// Takes a batch and carries its leaves up.
-fn take_batch<W: Ways>(
-    table: &HandTable<'_>,
-    about: &About<'_>,
-    seat: &mut TableSeat,
-    base: usize,
-    ways: &W,
-    batch: usize,
-    tally: Tally,
-) -> Tally
-    requires table { seat.old.table_id ≡ table.now.table_id }
-    requires over { IsTold about.now table.now.key table.now.table_id base }
-    requires within { batch < (frame_in table.now.key).batches }
-    requires one { seat.old.me.0 ≡ one (given_in table.now.key) (mine seat.old.me) }
-    requires home { seat.old.me.1 ≡ [] }
-    requires worker { worker_of (mine seat.old.me) ≡ resume (frame_in table.now.key) batch [] tally }
-    requires ways { W.stands ways.now (given_in table.now.key).keys }
-    ensures { Working (given_in table.now.key) seat.old seat.new (batch + 1) [] result }
-{
-    let was_claimed = take(table, seat, batch);
-    let tally = Tally {
-        fits: tally.fits,
-        steps: tally.steps + 1,
-    };
-    if was_claimed {
-        return tally;
-    }
-    carry_batch(table, about, seat, base, ways, batch, tally)
-}
-
 /// Takes batches and carries their leaves up, until no batch is left.
 pub fn climb_with<W: Ways, G: Gate>(
     table: &HandTable<'_>,
@@ -182,7 +152,12 @@ pub fn climb_with<W: Ways, G: Gate>(
     let mut tally = Tally { fits: 0, steps: 0 };
     for batch in 0..base {
         gate.pass(number, batch as u64);
-        tally = take_batch(table, about, seat, base, ways, batch, tally);
+        let was_claimed = take(table, seat, batch);
+        tally.steps += 1;
+        if was_claimed {
+            continue;
+        }
+        tally = carry_batch(table, about, seat, base, ways, batch, tally);
     }
     tally
 }

@@ -32,7 +32,7 @@ impl<'a> Handoff<'a> {
     /// A handoff over all keys, and its seats, numbered from 0, none of which has begun. `boxes[t - 1]` is the box of
     /// triangle `t`.
     ///
-    /// It takes memory for a word for every 64 keys, and for a word and a slot for each inner node.
+    /// It takes memory for a word for every 64 keys, for a word and a slot for each inner node, and for one slot more.
     pub fn fresh(
         alloc: Global,
         keys: &'a [Key],
@@ -57,8 +57,8 @@ impl<'a> Handoff<'a> {
     ///
     /// `boxes[t - 1]` is the box of triangle `t`, and `live` are the positions whose boxes may have changed, rising, one
     /// at least. The tree is fitted to some list of boxes that gives the triangle at every other position the same box.
-    /// It takes memory for a word for every 64 live leaves, for a word, a slot and a number for each live inner node, and
-    /// for the live positions.
+    /// It takes memory for a word for every 64 live leaves, for a word, a slot and a number for each live inner node, for
+    /// one slot more, and for the live positions.
     pub fn partial(
         alloc: Global,
         tree: &'a Tree,

@@ -10,7 +10,7 @@ ghost use Rattle.box_handoff.specs.Slots.{packed};
 ghost use Rattle.box_handoff.specs.Made.{given_in, frame_in, numbers_in};
 ghost use Rattle.box_handoff.specs.Entries.{IsGiven, one, worker_of};
 ghost use Rattle.box_handoff.specs.Plays.{mine, IsSmall, lent};
-ghost use Rattle.box_handoff.specs.Climbs.{Climbed, IsCarried, IsTold, came_first, finds_other, leaves_with, came_second};
+ghost use Rattle.box_handoff.specs.Climbs.{Climbed, IsCarried, IsPlace, IsTold, came_first, finds_other, leaves_with, came_second};
 
 use crate::numbering::place_of;
 use crate::plays::{HandTable, TableSeat};
@@ -52,17 +52,19 @@ fn is_inner(packet: &Packet) -> bool
 /// Leaves a load's packet at its node. The answer is what is found of the other side.
 fn come(
     table: &HandTable<'_>,
-    about: &About<'_>,
     seat: &mut TableSeat,
     base: usize,
+    place: usize,
     load: &Load,
 ) -> Opposite
     requires table { seat.old.table_id ≡ table.now.table_id }
-    requires over { IsTold about.now table.now.key table.now.table_id base }
+    requires over { IsTold table.now.key.value table.now.key table.now.table_id base }
     requires one { seat.old.me.0 ≡ one (given_in table.now.key) (mine seat.old.me) }
     requires home { seat.old.me.1 ≡ [] }
     requires phase { (mine seat.old.me).phase ≡ Carry load.now }
     requires load { IsCarried (frame_in table.now.key) load.now }
+    requires place { IsPlace (given_in table.now.key) place load.now.split }
+    requires small { place < 2 ^ 32 }
     ensures climbed { Climbed (given_in table.now.key) seat.old seat.new }
     ensures small { IsSmall (mine seat.old.me).tally }
     ensures other { result.arrived ≡ true →
@@ -71,7 +73,6 @@ fn come(
         worker_of (mine seat.new.me) ≡ came_first (frame_in table.now.key) (mine seat.old.me) }
     ensures second { result.arrived ≡ true → worker_of (mine seat.new.me) ≡ finds_other load.now (mine seat.old.me) }
 {
-    let place = place_of(about, load.split);
     let handed = is_inner(&load.packet);
     open(table, seat, base, place, load, handed);
     put(table, seat, place, load, handed);
@@ -113,6 +114,7 @@ fn take_other(
     about: &About<'_>,
     seat: &mut TableSeat,
     base: usize,
+    place: usize,
     load: &Load,
     handed: bool,
 ) -> Packet
@@ -123,12 +125,13 @@ fn take_other(
     requires home { seat.old.me.1 ≡ [] }
     requires phase { (mine seat.old.me).phase ≡ Second load.now }
     requires load { IsCarried (frame_in table.now.key) load.now }
+    requires place { IsPlace (given_in table.now.key) place load.now.split }
+    requires small { place < 2 ^ 32 }
     ensures climbed { Climbed (given_in table.now.key) seat.old seat.new }
     ensures found { result ≡ packet_at (frame_in table.now.key) load.now.split (other load.now.side) }
     ensures worker { worker_of (mine seat.new.me) ≡ leaves_with (frame_in table.now.key) load.now result
         (worker_of (mine seat.old.me)) }
 {
-    let place = place_of(about, load.split);
     collect(table, seat, base, place, load, handed);
     let found = found_there(table, about, seat, place, load, handed);
     leave(table, seat, base, place, load, &found, handed);
@@ -157,10 +160,11 @@ pub fn pass_node(
     ensures second { IfSome result (λ p.
         worker_of (mine seat.new.me) ≡ came_second (frame_in table.now.key) load.now.split p (mine seat.old.me)) }
 {
-    let across = come(table, about, seat, base, load);
+    let place = place_of(about, load.split);
+    let across = come(table, seat, base, place, load);
     if !across.arrived {
         return None;
     }
-    let found = take_other(table, about, seat, base, load, across.handed);
+    let found = take_other(table, about, seat, base, place, load, across.handed);
     Some(joined(load, &found))
 }

@@ -1,21 +1,10 @@
-use Rattle.std.proofs.Common.{subst, ap, ◌∙◌}
-use Rattle.box_handoff.specs.declared.views.About.{About}
-use Rattle.box_handoff.specs.LiveNodes.{Shown}
-use Rattle.box_handoff.specs.Entries.{IsGiven, frame, given_of}
+use Rattle.std.proofs.Common.{ap, ◌∙◌}
 use Rattle.box_handoff.specs.Made.{frame_in}
 use Rattle.box_handoff.specs.Plays.{mine}
-use Rattle.box_handoff.proofs.NumberLaws.{place_there}
 use Rattle.box_handoff.proofs.HandedLaws.{handed_is}
 use Rattle.box_handoff.proofs.GrowLaws.{grew_came}
 use Rattle.box_handoff.proofs.PassLaws.{was_small, turned_back, found_other}
 use Rattle.box_handoff.proofs.passing.come.Goals as goal
-
-pub place_of-place-requires-clause-given : goal.place_of-place-requires-clause-given
-place_of-place-requires-clause-given c = subst (λ (a : About). IsGiven (given_of a)) c.requires.over.key_is c.requires.over.given
-
-pub place_of-place-requires-clause-seen : goal.place_of-place-requires-clause-seen
-place_of-place-requires-clause-seen c = subst (λ (a : About). Shown (frame (given_of a)) c.args.load.now.split)
-    c.requires.over.key_is (c.requires.load.node, c.requires.load.live)
 
 pub open-requires-clause-handed : goal.open-requires-clause-handed
 open-requires-clause-handed c = handed_is _ c.requires.over.given c.args.load.now c.requires.load c.is_inner-handed.result
@@ -24,12 +13,6 @@ open-requires-clause-handed c = handed_is _ c.requires.over.given c.args.load.no
 pub arrive-requires-clause-handed : goal.arrive-requires-clause-handed
 arrive-requires-clause-handed c = handed_is _ c.requires.over.given c.args.load.now c.requires.load c.is_inner-handed.result
     c.is_inner-handed.ensures.yes c.is_inner-handed.ensures.no
-
-pub open-requires-clause-place : goal.open-requires-clause-place
-open-requires-clause-place c = place_there _ _ _ _ c.requires.over.key_is c.place_of-place.ensures.place
-
-pub arrive-requires-clause-place : goal.arrive-requires-clause-place
-arrive-requires-clause-place c = place_there _ _ _ _ c.requires.over.key_is c.place_of-place.ensures.place
 
 pub returns-clause-climbed : goal.returns-clause-climbed
 returns-clause-climbed c = record {

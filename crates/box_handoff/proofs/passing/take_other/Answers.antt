@@ -1,34 +1,17 @@
-use Rattle.std.proofs.Common.{subst, ap, ◌∙◌}
+use Rattle.std.proofs.Common.{ap, ◌∙◌}
 use Rattle.arrival_core.specs.Frames.{other, packet_at}
-use Rattle.box_handoff.specs.declared.views.About.{About}
-use Rattle.box_handoff.specs.LiveNodes.{Shown}
-use Rattle.box_handoff.specs.Entries.{IsGiven, frame, given_of}
 use Rattle.box_handoff.specs.Made.{frame_in}
 use Rattle.box_handoff.specs.Slots.{packed}
 use Rattle.box_handoff.specs.Rule.{slot}
 use Rattle.box_handoff.specs.Plays.{mine, lent}
-use Rattle.box_handoff.proofs.NumberLaws.{place_there}
 use Rattle.box_handoff.proofs.GrowLaws.{grew_left}
 use Rattle.box_handoff.proofs.PassLaws.{holds_both, still_out, left_with}
 use Rattle.box_handoff.proofs.passing.take_other.Goals as goal
 
-pub place_of-place-requires-clause-given : goal.place_of-place-requires-clause-given
-place_of-place-requires-clause-given c = subst (λ (a : About). IsGiven (given_of a)) c.requires.over.key_is c.requires.over.given
-
-pub place_of-place-requires-clause-seen : goal.place_of-place-requires-clause-seen
-place_of-place-requires-clause-seen c = subst (λ (a : About). Shown (frame (given_of a)) c.args.load.now.split)
-    c.requires.over.key_is (c.requires.load.node, c.requires.load.live)
-
-pub collect-requires-clause-place : goal.collect-requires-clause-place
-collect-requires-clause-place c = place_there _ _ _ _ c.requires.over.key_is c.place_of-place.ensures.place
-
 pub found_there-found-requires-clause-out : goal.found_there-found-requires-clause-out
 found_there-found-requires-clause-out c = c.collect.ensures.out ∙ ap (lent c.args.handed
-    (slot c.place_of-place.result (other c.args.load.now.side)) (packed (other c.args.load.now.side)
+    (slot c.args.place (other c.args.load.now.side)) (packed (other c.args.load.now.side)
     (packet_at (frame_in c.args.table.now.key) c.args.load.now.split (other c.args.load.now.side)))) c.requires.home
-
-pub leave-requires-clause-place : goal.leave-requires-clause-place
-leave-requires-clause-place c = place_there _ _ _ _ c.requires.over.key_is c.place_of-place.ensures.place
 
 pub leave-requires-clause-phase : goal.leave-requires-clause-phase
 leave-requires-clause-phase c = holds_both c.args.load.now _ _ c.args.seat.now.me c.collect.new.seat.me
