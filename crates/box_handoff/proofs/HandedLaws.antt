@@ -15,12 +15,12 @@ use Rattle.box_handoff.proofs.FrameOf.{frame_is}
 
 module _ (g : Given) (ok : IsGiven g) where
   -- a leaf has one position
-  leaf_one : (p : ℕ) → (packet_below (frame g) (leaf p)).last ≡ (packet_below (frame g) (leaf p)).first
+  pub leaf_one : (p : ℕ) → (packet_below (frame g) (leaf p)).last ≡ (packet_below (frame g) (leaf p)).first
   unfolding frame frame_of packet_below
   leaf_one p = refl
 
   -- an inner node has more
-  inner_more : (t : ℕ) → t < (frame g).nodes →
+  pub inner_more : (t : ℕ) → t < (frame g).nodes →
       (packet_below (frame g) (inner t)).first < (packet_below (frame g) (inner t)).last
   unfolding frame frame_of packet_below
   inner_more t lt =

@@ -37,3 +37,4 @@ pub mod CountLaws
 pub mod TallyLaws
 pub mod PacketRows
 pub mod AssembleLaws
+pub mod TakenLaws

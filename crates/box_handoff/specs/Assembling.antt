@@ -1,5 +1,5 @@
 -- A table of nodes while it is written from the packets of their children. No public clause cites this module.
-use Rattle.std.specs.Prelude.{ℕ, suc, ◌≡◌, ◌<◌, ◌≤◌, ◌+◌, ◌-◌, ◌⊎◌, Bool, List, length, slice_set}
+use Rattle.std.specs.Prelude.{ℕ, suc, ◌≡◌, ◌<◌, ◌≤◌, ◌+◌, ◌-◌, ◌⊎◌, Bool, List, length, slice_set, Option, Some, None}
 use Rattle.fixed_box.specs.declared.shapes.Box3.{Box3}
 use Rattle.fixed_box.specs.Extent.{union_of}
 use Rattle.morton_key.specs.declared.keys.Key.{Key}
@@ -39,6 +39,20 @@ PutsRoot old new s l r = (IsRoot old l r × (new ≡ slice_set old 0 (root_row s
 -- both children's rows and the root's are put, one after another
 abbrev pub PutsRows : List Node → List Node → ℕ → Packet → Packet → Type 0
 PutsRows old new t l r = (b c : List Node) × PutsChild old b t l × PutsChild b c (t + 1) r × PutsRoot c new t l r
+
+-- the row of a child that was taken out of its slot is put at its number
+abbrev pub PutsSlot : List Node → List Node → ℕ → Option Packet → Type 0
+PutsSlot old new number (Some p) = new ≡ slice_set old number (row p)
+PutsSlot old new number None = new ≡ old
+
+-- where a left child begins, and a right one ends, by what was taken of it: a leaf has no slot
+abbrev pub first_taken : ℕ → Option Packet → ℕ
+first_taken split (Some p) = p.first
+first_taken split None = split
+
+abbrev pub last_taken : ℕ → Option Packet → ℕ
+last_taken split (Some p) = p.last
+last_taken split None = split + 1
 
 -- the rows of all children of nodes with a split below t are there, and the root's, if its split is below t
 pub record AreWritten (keys : List Key) (boxes : List Box3) (t : ℕ) (nodes : List Node) : Type 0 where

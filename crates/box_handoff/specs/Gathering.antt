@@ -1,6 +1,6 @@
 -- Seats while they are split off and gathered, and packets while they are read out.
 -- No public clause cites this module.
-use Rattle.std.specs.Prelude.{ℕ, ◌≡◌, ◌+◌, ◌<◌, ◌≤◌, ◌*◌, ◌^◌, [], ◌∷◌, List, length, Bool, true, false, slice_index_or, All}
+use Rattle.std.specs.Prelude.{ℕ, ◌≡◌, ◌+◌, ◌<◌, ◌≤◌, ◌*◌, ◌^◌, [], ◌∷◌, List, length, Bool, true, false, slice_index_or, All, Option, Some, None}
 use mathlib.Core.Option.{some}
 use lib.ListN.{get_elem?}
 use Rattle.atomic_table.specs.Seated.{TableId}
@@ -20,7 +20,7 @@ use Rattle.box_handoff.specs.declared.seats.HandSeat.{HandSeat}
 use Rattle.box_handoff.specs.Slots.{packed}
 use Rattle.box_handoff.specs.LiveNodes.{Shown, slotted, splits_of}
 use Rattle.box_handoff.specs.Entries.{frame, numbers, unbegun_below, total, In}
-use Rattle.box_handoff.specs.Packets.{ArePacketsOf}
+use Rattle.box_handoff.specs.Packets.{ArePacketsOf, child_packet}
 use Rattle.box_handoff.specs.Rule.{slot, bit_on, side_no, node_word}
 use Rattle.box_handoff.specs.Seats.{IsSeat, seat_fits, seat_steps}
 
@@ -96,6 +96,11 @@ pub record AreFlags (g : Given) (words : List ℕ) (filled : List Bool) (count :
   pub full : (k : ℕ) → 0 ≤ k → k < count → slice_index_or filled k false ≡ true
   pub tells : (t : ℕ) (d : Side) → Shown (frame g) t →
       bit_on (node_word (frame g) (numbers g) words t) (HANDED + side_no d) ≡ slotted (frame g) t d
+
+-- what is taken of a child: its packet, if it has a slot
+abbrev pub IsTaken : Given → ℕ → Side → Option Packet → Type 0
+IsTaken g t d (Some p) = (slotted (frame g) t d ≡ true) × (p ≡ child_packet g.keys g.boxes t d)
+IsTaken g t d None = slotted (frame g) t d ≡ false
 
 -- while packets are taken out of a closed table: the first so many slots are out
 pub record IsTaking (g : Given) (slots : List SlotPacket) (filled : List Bool) (count t : ℕ) : Type 0 where

@@ -1,21 +1,22 @@
 //! A tree from the packets of its nodes' children. The packet of an inner child tells the child's row, and its place
 //! the child's number: a left child has its parent's split for number, a right one the next.
-ghost use Rattle.std.specs.Prelude.{◌≡◌, ◌<◌, ◌≤◌, ◌+◌, ◌-◌, ◌^◌, List, length, IfOk};
+ghost use Rattle.std.specs.Prelude.{◌≡◌, ◌<◌, ◌≤◌, ◌+◌, ◌-◌, ◌^◌, List, length, IfOk, IfSome};
+ghost use Rattle.arrival_core.specs.declared.packets.Side.TheVariants.{Left, Right};
 ghost use Rattle.fixed_box.specs.declared.shapes.Box3.{Box3};
 ghost use Rattle.morton_key.specs.Keys.{IsLawful};
 ghost use Rattle.radix_tree.specs.Table.{IsTable};
 ghost use Rattle.radix_tree.specs.Fit.{IsFitted, table_of};
 ghost use Rattle.arrival_core.specs.Tasks.{IsWhole};
 ghost use Rattle.box_handoff.specs.Entries.{IsGiven, given_of, setting_of, numbers};
-ghost use Rattle.box_handoff.specs.Gathering.{AreFlags, IsTaking};
-ghost use Rattle.box_handoff.specs.Packets.{AreFitted, over_keys};
-ghost use Rattle.box_handoff.specs.Assembling.{row, PutsChild, PutsRoot, PutsRows};
+ghost use Rattle.box_handoff.specs.Gathering.{AreFlags, IsTaken, IsTaking};
+ghost use Rattle.box_handoff.specs.Packets.{AreFitted, child_packet, over_keys};
+ghost use Rattle.box_handoff.specs.Assembling.{row, first_taken, last_taken, PutsChild, PutsSlot, PutsRoot, PutsRows};
 
 use crate::climbing::batches_of;
-use crate::gathering::take_pair;
+use crate::gathering::{take_slots, taken_or_told};
 use crate::slots::SlotPacket;
 use crate::views::About;
-use crate::{Fitted, Packet};
+use crate::{Fitted, Packet, Side};
 use atomic_table::Closed;
 use fixed_box::{Box3, Point, union};
 use morton_key::Key;
@@ -72,6 +73,69 @@ fn put_rows(nodes: &mut Vec<Node>, t: usize, left: &Packet, right: &Packet)
     put_root(nodes, t as u32, left, right);
 }
 
+/// Puts the row of a child at its number, where it was taken out of a slot.
+fn put_slot(nodes: &mut Vec<Node>, number: usize, taken: &Option<Packet>)
+    requires within { IfSome taken.now (λ p. number < length nodes.old.items) }
+    ensures { PutsSlot nodes.old.items nodes.new.items number taken.now }
+{
+    if let Some(packet) = taken {
+        nodes[number] = row_of(packet);
+    }
+}
+
+/// Where the range of a left child begins: it ends at the split, and a leaf begins there too.
+fn first_of(split: u32, left: &Option<Packet>) -> u32
+    ensures { result ≡ first_taken split left.now }
+{
+    match left {
+        Some(packet) => packet.first,
+        None => split,
+    }
+}
+
+/// Where the range of a right child ends: it begins behind the split, and a leaf ends there too.
+fn last_of(split: u32, right: &Option<Packet>) -> u32
+    requires { split < 2 ^ 31 }
+    ensures { result ≡ last_taken split right.now }
+{
+    match right {
+        Some(packet) => packet.last,
+        None => split + 1,
+    }
+}
+
+/// Puts the rows of the inner children of the node with that split, and the root's, if it is the root. No leaf's box is
+/// looked up but for the root's row.
+fn put_taken(
+    nodes: &mut Vec<Node>,
+    about: &About<'_>,
+    split: u32,
+    left: &Option<Packet>,
+    right: &Option<Packet>,
+)
+    requires given { IsGiven (given_of about.now) }
+    requires whole { IsWhole (setting_of (given_of about.now)) }
+    requires count { length nodes.old.items ≡ length about.now.keys.now - 1 }
+    requires within { split < length nodes.old.items }
+    requires left { IsTaken (given_of about.now) split Left left.now }
+    requires right { IsTaken (given_of about.now) split Right right.now }
+    ensures { PutsRows nodes.old.items nodes.new.items split
+        (child_packet about.now.keys.now about.now.boxes.now split Left)
+        (child_packet about.now.keys.now about.now.boxes.now split Right) }
+{
+    put_slot(nodes, split as usize, left);
+    put_slot(nodes, split as usize + 1, right);
+    if first_of(split, left) != 0 {
+        return;
+    }
+    if last_of(split, right) as usize != nodes.len() {
+        return;
+    }
+    let on_left = taken_or_told(about, split, Side::Left, left);
+    let on_right = taken_or_told(about, split, Side::Right, right);
+    put_root(nodes, split, &on_left, &on_right);
+}
+
 /// So many nodes, still to be written.
 pub fn blank_nodes(alloc: Global, count: usize) -> Result<Vec<Node>, Memory>
     ensures { IfOk result (λ nodes. length nodes.items ≡ count) }
@@ -104,8 +168,8 @@ pub fn write_out(
     let base = batches_of(about);
     let mut here = closed.take(0);
     for t in 0..nodes.len() {
-        let (left, right) = take_pair(&mut closed, &mut here, about, base, t);
-        put_rows(&mut nodes, t, &left, &right);
+        let (left, right) = take_slots(&mut closed, &mut here, about, base, t);
+        put_taken(&mut nodes, about, t as u32, &left, &right);
     }
     closed.free();
     nodes

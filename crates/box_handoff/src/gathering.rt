@@ -11,7 +11,17 @@ ghost use Rattle.box_handoff.specs.Slots.{packed};
 ghost use Rattle.box_handoff.specs.Plays.{IsSmall};
 ghost use Rattle.box_handoff.specs.Seats.{seat_fits, seat_steps, given_by, setting_by, AreAll, IsSumOf};
 ghost use Rattle.box_handoff.specs.Counts.{IsLiveCounted};
-ghost use Rattle.box_handoff.specs.Gathering.{HasEnded, Covers, AllEnded, AreFlags, IsTaking, HasBefore, fits_of, steps_of};
+ghost use Rattle.box_handoff.specs.Gathering.{
+  HasEnded,
+  Covers,
+  AllEnded,
+  AreFlags,
+  IsTaken,
+  IsTaking,
+  HasBefore,
+  fits_of,
+  steps_of,
+};
 
 use crate::climbing::batches_of;
 use crate::handoffs::Handoff;
@@ -96,30 +106,48 @@ pub fn finish<'a>(
     (table.close_with(seat), about, tally)
 }
 
-/// The packet of a child of the node with that split: what its slot keeps, or told without one.
-fn read_child(about: &About<'_>, split: u32, side: Side, handed: bool, kept: &SlotPacket) -> Packet
+/// The packet of a child of the node with that split, if it has a slot, which keeps this.
+fn slot_packet(
+    about: &About<'_>,
+    split: u32,
+    side: Side,
+    handed: bool,
+    kept: &SlotPacket,
+) -> Option<Packet>
     requires given { IsGiven (given_of about.now) }
     requires within { split < (frame (given_of about.now)).nodes }
     requires handed { handed ≡ slotted (frame (given_of about.now)) split side }
     requires kept { handed ≡ true → kept.now ≡ packed side (packet_at (frame (given_of about.now)) split side) }
+    ensures { IsTaken (given_of about.now) split side result }
+{
+    if !handed {
+        return None;
+    }
+    Some(unpack(split, side, kept))
+}
+
+/// The packet of a child of the node with that split: what was taken out of its slot, or told without one.
+pub fn taken_or_told(about: &About<'_>, split: u32, side: Side, taken: &Option<Packet>) -> Packet
+    requires given { IsGiven (given_of about.now) }
+    requires within { split < (frame (given_of about.now)).nodes }
+    requires taken { IsTaken (given_of about.now) split side taken.now }
     ensures { result ≡ child_packet about.now.keys.now about.now.boxes.now split side }
 {
-    if handed {
-        unpack(split, side, kept)
-    } else {
-        told(about, split, side)
+    match taken {
+        Some(packet) => *packet,
+        None => told(about, split, side),
     }
 }
 
-/// Takes the packets of both children of the live node of a number out of a closed table. The slot before the node is out
-/// already, and the one behind it is taken out, to be the one before the next node.
-pub fn take_pair(
+/// Takes the packets of those children of the live node of a number that have slots out of a closed table. The slot before
+/// the node is out already, and the one behind it is taken out, to be the one before the next node.
+pub fn take_slots(
     closed: &mut Closed<SlotPacket, Global>,
     here: &mut SlotPacket,
     about: &About<'_>,
     base: usize,
     place: usize,
-) -> (Packet, Packet)
+) -> (Option<Packet>, Option<Packet>)
     requires given { IsGiven (given_of about.now) }
     requires flags { let words = closed.old.words in
         AreFlags (given_of about.now) words.items words.filled words.len }
@@ -130,24 +158,24 @@ pub fn take_pair(
     ensures flags { closed.new.words ≡ closed.old.words }
     ensures taking { let slots = closed.new.slots in
         HasBefore (given_of about.now) slots.items slots.filled slots.len (place + 1) here.new }
-    ensures left { result.0 ≡ child_packet about.now.keys.now about.now.boxes.now
-        (slice_index (splits_of (frame (given_of about.now))) place) Left }
-    ensures right { result.1 ≡ child_packet about.now.keys.now about.now.boxes.now
-        (slice_index (splits_of (frame (given_of about.now))) place) Right }
+    ensures left { let g = given_of about.now in
+        IsTaken g (slice_index (splits_of (frame g)) place) Left result.0 }
+    ensures right { let g = given_of about.now in
+        IsTaken g (slice_index (splits_of (frame g)) place) Right result.1 }
 {
     let split = spot_of(about, place);
     let word = closed.word(base + place);
     let before = *here;
     let behind = closed.take(place + 1);
     *here = behind;
-    let left = read_child(
+    let left = slot_packet(
         about,
         split,
         Side::Left,
         is_set(word, bit_of(HANDED, Side::Left)),
         &before,
     );
-    let right = read_child(
+    let right = slot_packet(
         about,
         split,
         Side::Right,
@@ -181,9 +209,10 @@ pub fn read_out(
     let base = batches_of(about);
     let mut here = closed.take(0);
     for i in 0..count {
-        let (on_left, on_right) = take_pair(&mut closed, &mut here, about, base, i);
-        left.push_reserved(on_left);
-        right.push_reserved(on_right);
+        let (on_left, on_right) = take_slots(&mut closed, &mut here, about, base, i);
+        let split = spot_of(about, i);
+        left.push_reserved(taken_or_told(about, split, Side::Left, &on_left));
+        right.push_reserved(taken_or_told(about, split, Side::Right, &on_right));
     }
     closed.free();
     (left, right)

@@ -1,13 +1,12 @@
-use Rattle.std.proofs.Common.{arith, ap, sym, subst, ◌∙◌, ◌<◌, ◌-◌, length}
+use Rattle.std.proofs.Common.{arith, refl, sym, subst, ◌∙◌, ◌<◌, ◌-◌, length}
 use Rattle.box_handoff.specs.Entries.{given_of}
-use Rattle.box_handoff.specs.Gathering.{AreFlags}
+use Rattle.box_handoff.specs.Gathering.{AreFlags, IsTaken}
 use Rattle.box_handoff.proofs.FrameOf.{live_few}
 use Rattle.box_handoff.proofs.ReadLaws.{has_before}
 use Rattle.arrival_core.specs.declared.packets.Side.TheVariants.{Left, Right}
 use Rattle.radix_tree.proofs.OneTable.{table_is}
-use Rattle.box_handoff.specs.Packets.{child_packet}
 use Rattle.box_handoff.proofs.WholeFrame.{whole_count, whole_split}
-use Rattle.box_handoff.proofs.AssembleLaws.{none_written, rows_written, rows_count, right_within, all_out}
+use Rattle.box_handoff.proofs.AssembleLaws.{none_written, rows_written, rows_count, all_out}
 use Rattle.box_handoff.proofs.assembling.write_out.Goals as goal
 
 pub loop-t-init : goal.loop-t-init
@@ -29,41 +28,38 @@ take-here-requires c =
     let t = c.requires.taking in
     (omega (arith, t.places), t.full 0 (omega arith) (omega (arith, t.places)))
 
-pub take_pair-requires-clause-flags : goal.take_pair-requires-clause-flags
-take_pair-requires-clause-flags c = subst (λ w. AreFlags (given_of c.args.about.now) w.items w.filled w.len)
+pub take_slots-left-requires-clause-flags : goal.take_slots-left-requires-clause-flags
+take_slots-left-requires-clause-flags c = subst (λ w. AreFlags (given_of c.args.about.now) w.items w.filled w.len)
     (sym c.loop-t.invariant.1) c.requires.flags
 
-pub put_rows-requires-clause-within : goal.put_rows-requires-clause-within
-put_rows-requires-clause-within c = λ less.
+pub put_taken-requires-clause-left : goal.put_taken-requires-clause-left
+put_taken-requires-clause-left c =
     let n = whole_count _ c.requires.given c.requires.whole in
     let lt : c.loop-t.t < length c.args.about.now.keys.now - 1
     = omega (arith, c.loop-t-test.true, c.len-t-end.ensures, c.args.nodes.ok, c.requires.room, n) in
-    let is = c.take_pair.ensures.right
-    ∙ ap (λ s. child_packet c.args.about.now.keys.now c.args.about.now.boxes.now s Right)
-    (whole_split _ c.requires.given c.requires.whole c.loop-t.t lt) in
-    let r = right_within _ c.requires.whole.lawful _ _ _ lt is less in omega (arith, r, c.loop-t.invariant.0.count)
+    subst (λ s. IsTaken (given_of c.args.about.now) s Left c.take_slots-left.result.0)
+    (whole_split _ c.requires.given c.requires.whole c.loop-t.t lt) c.take_slots-left.ensures.left
 
-pub put_rows-requires-clause-few : goal.put_rows-requires-clause-few
-put_rows-requires-clause-few c = omega (arith, c.loop-t.invariant.0.count, c.requires.whole.lawful.few)
+pub put_taken-requires-clause-right : goal.put_taken-requires-clause-right
+put_taken-requires-clause-right c =
+    let n = whole_count _ c.requires.given c.requires.whole in
+    let lt : c.loop-t.t < length c.args.about.now.keys.now - 1
+    = omega (arith, c.loop-t-test.true, c.len-t-end.ensures, c.args.nodes.ok, c.requires.room, n) in
+    subst (λ s. IsTaken (given_of c.args.about.now) s Right c.take_slots-left.result.1)
+    (whole_split _ c.requires.given c.requires.whole c.loop-t.t lt) c.take_slots-left.ensures.right
 
 pub loop-t-preserved : goal.loop-t-preserved
 loop-t-preserved c =
     let n = whole_count _ c.requires.given c.requires.whole in
     let lt : c.loop-t.t < length c.args.about.now.keys.now - 1
-    = omega (arith, c.loop-t-test.true, c.len-t-end.ensures, c.args.nodes.ok, c.requires.room, n) in
-    let s = whole_split _ c.requires.given c.requires.whole c.loop-t.t lt in (
+    = omega (arith, c.loop-t-test.true, c.len-t-end.ensures, c.args.nodes.ok, c.requires.room, n) in (
       record {
-        taking = c.take_pair.ensures.taking;
-        count = rows_count _ _ c.loop-t.t c.take_pair.result.0 c.take_pair.result.1 c.put_rows.ensures
-            ∙ c.loop-t.invariant.0.count;
-        written = rows_written _ c.requires.whole.lawful _ _ lt c.take_pair.result.0 c.take_pair.result.1
-            (c.take_pair.ensures.left
-            ∙ ap (λ z. child_packet c.args.about.now.keys.now c.args.about.now.boxes.now z Left) s)
-            (c.take_pair.ensures.right
-            ∙ ap (λ z. child_packet c.args.about.now.keys.now c.args.about.now.boxes.now z Right) s)
-            _ _ c.loop-t.invariant.0.count c.put_rows.ensures c.loop-t.invariant.0.written;
+        taking = c.take_slots-left.ensures.taking;
+        count = rows_count _ _ c.loop-t.t _ _ c.put_taken.ensures ∙ c.loop-t.invariant.0.count;
+        written = rows_written _ c.requires.whole.lawful _ _ lt _ _ refl refl _ _ c.loop-t.invariant.0.count
+            c.put_taken.ensures c.loop-t.invariant.0.written;
       },
-      c.take_pair.ensures.flags ∙ c.loop-t.invariant.1,
+      c.take_slots-left.ensures.flags ∙ c.loop-t.invariant.1,
     )
 
 pub returns-clause-table : goal.returns-clause-table

@@ -3,11 +3,11 @@ use Rattle.arrival_core.specs.declared.packets.Packet.{Packet}
 use Rattle.arrival_core.specs.declared.packets.Side.TheVariants.{Left, Right}
 use Rattle.box_handoff.specs.LiveNodes.{splits_of}
 use Rattle.box_handoff.specs.Entries.{given_of, frame}
-use Rattle.box_handoff.specs.Packets.{ArePacketsOf}
+use Rattle.box_handoff.specs.Packets.{ArePacketsOf, child_packet}
 use Rattle.box_handoff.proofs.NumberLaws.{counted}
 use Rattle.box_handoff.proofs.FrameOf.{live_few}
 use Rattle.box_handoff.specs.Gathering.{AreFlags}
-use Rattle.box_handoff.proofs.ReadLaws.{one_more, has_before}
+use Rattle.box_handoff.proofs.ReadLaws.{one_more, has_before, listed_low}
 use Rattle.box_handoff.proofs.gathering.read_out.Goals as goal
 
 pub batches_of-base-requires : goal.batches_of-base-requires
@@ -23,8 +23,14 @@ loop-i-init c = (
   record {
     taking = has_before _ _ _ _ _ _ _ _ _ c.requires.taking c.take-here.ensures.others.0 c.take-here.ensures.others.1
         c.take-here.ensures.others.2 c.take-here.ensures.value;
-    lefts = record { count_is = ap (λ (l : List Packet). length l) c.requires.left_empty; each = λ i p lt. absurd (omega arith) };
-    rights = record { count_is = ap (λ (l : List Packet). length l) c.requires.right_empty; each = λ i p lt. absurd (omega arith) };
+    lefts = record {
+      count_is = ap (λ (l : List Packet). length l) c.requires.left_empty;
+      each = λ i p lt. absurd (omega arith);
+    };
+    rights = record {
+      count_is = ap (λ (l : List Packet). length l) c.requires.right_empty;
+      each = λ i p lt. absurd (omega arith);
+    };
   },
   c.requires.left_room,
   c.requires.right_room,
@@ -35,19 +41,30 @@ pub loop-i-preserved : goal.loop-i-preserved
 loop-i-preserved c =
     let i = c.loop-i.invariant.0 in (
       record {
-        taking = c.take_pair.ensures.taking;
-        lefts = one_more _ _ _ _ _ _ _ _ i.lefts c.take_pair.ensures.left c.push_reserved.ensures.items;
-        rights = one_more _ _ _ _ _ _ _ _ i.rights c.take_pair.ensures.right
+        taking = c.take_slots-on_left.ensures.taking;
+        lefts = one_more _ _ _ _ _ _ _ _ i.lefts (c.taken_or_told.ensures
+            ∙ ap (λ n. child_packet c.args.about.now.keys.now c.args.about.now.boxes.now n Left) c.spot_of-split.ensures)
+            c.push_reserved.ensures.items;
+        rights = one_more _ _ _ _ _ _ _ _ i.rights (c.taken_or_told-in-loop-i.ensures
+            ∙ ap (λ n. child_packet c.args.about.now.keys.now c.args.about.now.boxes.now n Right) c.spot_of-split.ensures)
             c.push_reserved-in-loop-i.ensures.items;
       },
       omega (arith, c.push_reserved.ensures.capacity, c.loop-i.invariant.1),
       omega (arith, c.push_reserved-in-loop-i.ensures.capacity, c.loop-i.invariant.2),
-      c.take_pair.ensures.flags ∙ c.loop-i.invariant.3,
+      c.take_slots-on_left.ensures.flags ∙ c.loop-i.invariant.3,
     )
 
-pub take_pair-requires-clause-flags : goal.take_pair-requires-clause-flags
-take_pair-requires-clause-flags c = subst (λ w. AreFlags (given_of c.args.about.now) w.items w.filled w.len)
+pub take_slots-on_left-requires-clause-flags : goal.take_slots-on_left-requires-clause-flags
+take_slots-on_left-requires-clause-flags c = subst (λ w. AreFlags (given_of c.args.about.now) w.items w.filled w.len)
     (sym c.loop-i.invariant.3) c.requires.flags
+
+pub taken_or_told-requires-clause-within : goal.taken_or_told-requires-clause-within
+taken_or_told-requires-clause-within c = listed_low _ c.requires.given c.loop-i.i _
+    (omega (arith, c.loop-i-test.true, c.loop-i.auto.i-end, c.requires.count)) c.spot_of-split.ensures
+
+pub taken_or_told-requires-in-loop-i-clause-within : goal.taken_or_told-requires-in-loop-i-clause-within
+taken_or_told-requires-in-loop-i-clause-within c = listed_low _ c.requires.given c.loop-i.i _
+    (omega (arith, c.loop-i-test.true, c.loop-i.auto.i-end, c.requires.count)) c.spot_of-split.ensures
 
 pub returns-clause-left : goal.returns-clause-left
 returns-clause-left c =
