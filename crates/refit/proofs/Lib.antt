@@ -9,3 +9,4 @@ pub mod StaleTrees
 pub mod FittedRows
 pub mod WholeTrees
 pub mod PutRows
+pub mod RenewLaws

@@ -1,5 +1,5 @@
 -- A list of positions while it is made.
-use Rattle.std.proofs.Common.{◌≡◌, ℕ, ◌+◌, ◌-◌, ◌<◌, sym, arith, inl, inr, subst, List, [], ◌∷◌, ◌++◌, length, Bool, true, false, ◌↔◌}
+use Rattle.std.proofs.Common.{◌≡◌, ℕ, ◌+◌, ◌<◌, sym, arith, inl, inr, subst, List, [], ◌∷◌, ◌++◌, Bool, true, false, ◌↔◌}
 use Rattle.std.specs.Prelude.{Contains, IsTrue}
 use Rattle.std.proofs.lemmas.Bool.{cases_lt}
 use Rattle.std.proofs.lemmas.List.Quantifiers.{all_pairs_push}

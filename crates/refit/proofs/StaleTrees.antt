@@ -1,7 +1,6 @@
 -- A tree that is fitted but for the triangles that moved has the boxes of all ranges without one.
-use Rattle.std.proofs.Common.{◌≡◌, ℕ, ◌+◌, ◌-◌, ◌<◌, ◌≤◌, ◌⊎◌, inl, inr, sym, ap, ◌∙◌, arith, subst, List, length, take, drop, get_or, map}
+use Rattle.std.proofs.Common.{◌≡◌, ℕ, ◌+◌, ◌-◌, ◌<◌, ◌≤◌, sym, ap, ◌∙◌, arith, subst, List, length, take, drop, get_or, map}
 use Rattle.std.proofs.lemmas.List.{ext_get_or, get_or-map, length-map, length-take, get_or-take, get_or-drop}
-use Rattle.std.proofs.lemmas.List.Elements.{All-contains}
 use Rattle.fixed_box.specs.declared.shapes.Box3.{Box3}
 use Rattle.fixed_box.specs.Boxes.{IsLeastBox}
 use Rattle.morton_key.specs.declared.keys.Key.{Key}

@@ -1,6 +1,7 @@
 -- A tree while the boxes of its live nodes are put back. No public clause cites this module.
 use Rattle.std.specs.Prelude.{ℕ, ◌≡◌, ◌<◌, List, length, slice_index}
 use Rattle.morton_key.specs.declared.keys.Key.{Key}
+use Rattle.fixed_box.specs.declared.shapes.Box3.{Box3}
 use Rattle.radix_tree.specs.declared.nodes.Node.{Node}
 use Rattle.radix_tree.specs.Split.{split}
 use Rattle.radix_tree.specs.Ranges.{IsNode}
@@ -22,3 +23,9 @@ pub record IsPutting (x : Setting) (old : List Node) (now : Contents) (i : ℕ) 
   pub kept : (k : ℕ) → HasRow x.keys x.boxes old k → HasRow x.keys x.boxes now.nodes k
   pub made : (k j : ℕ) → j < i → k < length old → (node_at old k).split ≡ slice_index (splits_of (frame_of x)) j →
       HasRow x.keys x.boxes now.nodes k
+
+-- the first so many nodes are fitted
+pub record IsRenewing (keys : List Key) (boxes : List Box3) (now : Contents) (i : ℕ) : Type 0 where
+  pub table : IsTable now
+  pub keys_are : now.keys ≡ keys
+  pub made : (k : ℕ) → k < i → HasRow keys boxes now.nodes k

@@ -1,5 +1,5 @@
 -- What of a tree stands where triangles moved.
-use Rattle.std.specs.Prelude.{ℕ, ◌≡◌, ◌<◌, ◌≤◌, ◌⊎◌, ◌++◌, List, Contains, All, length}
+use Rattle.std.specs.Prelude.{ℕ, ◌≡◌, ◌<◌, ◌≤◌, ◌⊎◌, ◌++◌, List, All}
 use Rattle.std.specs.List.Sorted.{IsNonDecreasing}
 use Rattle.fixed_box.specs.declared.shapes.Box3.{Box3}
 use Rattle.morton_key.specs.declared.keys.Key.{Key}
@@ -7,8 +7,7 @@ use Rattle.morton_key.specs.Keys.{tri_at}
 use Rattle.radix_tree.specs.declared.nodes.Node.{Node}
 use Rattle.radix_tree.specs.declared.nodes.Child.{Child}
 use Rattle.radix_tree.specs.Ranges.{IsNode}
-use Rattle.radix_tree.specs.Table.{Contents}
-use Rattle.radix_tree.specs.Fit.{IsFitted, box_of_triangle}
+use Rattle.radix_tree.specs.Fit.{box_of_triangle}
 use Rattle.radix_tree.specs.Filling.{HasRow}
 use Rattle.refit.specs.Subtrees.{IsUnder}
 

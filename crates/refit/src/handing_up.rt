@@ -10,11 +10,12 @@ ghost use Rattle.radix_tree.specs.Fit.{IsFitted, table_of};
 ghost use Rattle.arrival_core.specs.declared.packets.TheConstants.{MOST_WORKERS};
 ghost use Rattle.arrival_core.specs.Settings.{setting};
 ghost use Rattle.arrival_core.specs.Tasks.{FitsButFor};
+ghost use Rattle.box_handoff.specs.Counts.{IsCounted};
 ghost use Rattle.refit.specs.Shapes.{KeepsShape};
 ghost use Rattle.refit.specs.Counts.{IsRefitCounted};
 ghost use Rattle.refit.specs.Putting.{IsNodeOf};
 
-use box_handoff::{Packet, Tally, Ways, fit_live};
+use box_handoff::{FittedNodes, Packet, Tally, Ways, fit_live, fit_nodes};
 use fixed_box::{Box3, union};
 use outside::{Gate, Memory};
 use radix_tree::Tree;
@@ -47,13 +48,52 @@ fn put_node(tree: &mut Tree, left: &Packet, right: &Packet)
     tree.put(number, union(&left.fit, &right.fit));
 }
 
+/// Fits all nodes of the tree to the boxes by so many workers: the nodes of a tree that is built, whose boxes are put into
+/// this one. After `Memory` the tree is as before.
+fn refit_whole<R: Threads + Sync, W: Ways, G: Gate>(
+    rt: &R,
+    alloc: Global,
+    tree: &mut Tree,
+    boxes: &[Box3],
+    ways: &W,
+    workers: u32,
+    gate: &G,
+) -> Result<Tally, Memory>
+    requires table { IsTable tree.old }
+    requires two { 1 < length tree.old.keys }
+    requires boxes { length boxes.now ≡ length tree.old.keys }
+    requires some { 0 < workers }
+    requires few { workers ≤ MOST_WORKERS }
+    requires ways { W.stands ways.now tree.old.keys }
+    ensures table { IsTable tree.new }
+    ensures keys { tree.new.keys ≡ tree.old.keys }
+    ensures fitted { OnOk result (IsFitted tree.new boxes.now) }
+    ensures counts { IfOk result (λ t. IsCounted (length tree.old.keys) workers t) }
+    ensures memory { OnErr result (tree.new ≡ tree.old) }
+{
+    let FittedNodes { nodes, tally } = fit_nodes(
+        rt,
+        alloc,
+        ways,
+        gate,
+        tree.keys(),
+        boxes,
+        workers,
+    )?;
+    for number in 0..nodes.len() {
+        tree.put(number as u32, nodes[number].fit);
+    }
+    Ok(tally)
+}
+
 /// Fits the tree to the boxes by so many workers, each in a thread of its own where there is one: `boxes[t - 1]` is the
 /// box of triangle `t`, and `live` are the positions whose boxes may have changed, rising. Keys, ranges and splits are as
 /// before.
 ///
 /// The tree is fitted to some list of boxes that gives the triangle at every other position the same box; `ways` tells
 /// the way up in it, and is not asked with fewer than two keys. It fits the nodes above the live leaves alone, and takes
-/// time and memory in proportion to them, but for the times of a search among them. The tally counts what the workers
+/// time and memory in proportion to them, but for the times of a search among them; where all leaves are live it searches
+/// for none, as in a build. The tally counts what the workers
 /// did: it is exact, and 0 where nothing is live or no node is there. After `Memory` the tree is as before.
 pub fn refit<R: Threads + Sync, W: Ways, G: Gate>(
     rt: &R,
@@ -84,6 +124,9 @@ pub fn refit<R: Threads + Sync, W: Ways, G: Gate>(
     }
     if live.is_empty() {
         return Ok(Tally { fits: 0, steps: 0 });
+    }
+    if live.len() == tree.keys().len() {
+        return refit_whole(rt, alloc, tree, boxes, ways, workers, gate);
     }
     let fitted = fit_live(rt, alloc, ways, gate, tree, boxes, live, workers)?;
     for i in 0..fitted.left.len() {
