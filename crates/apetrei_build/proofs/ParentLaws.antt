@@ -90,9 +90,11 @@ module _ (keys : List Key) (ok : IsLawful keys) where
 
 -- what a list of measures tells of a range
 module _ (keys : List Key) (measures : List ℕ) (x : AreMeasures keys measures) (a b : ℕ) (r : IsRange keys a b) where
+  -- it ends no earlier than it begins
   order : a ≤ b
   order = (range_laws keys x.lawful r).order
 
+  -- it ends among the keys
   within : b < length keys
   within = (range_laws keys x.lawful r).within
 

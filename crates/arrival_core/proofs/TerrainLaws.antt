@@ -109,6 +109,7 @@ module _ (keys : List Key) (boxes : List Box3) (live : List ℕ) (workers next f
   unfolding frame_of
   shown_looking e more = rw (part_none live from to e) (rw (eq-false next (batch_count live) more) refl)
 
+  -- and one that carries a leaf of its batch up
   pub shown_carry : (u : Up) (p : Packet) → from < to → to ≤ length live →
       above keys (get_or live from 0) (get_or live from 0) ≡ Some u →
       p ≡ record {

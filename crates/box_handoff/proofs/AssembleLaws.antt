@@ -80,6 +80,7 @@ module _ (keys : List Key) (ok : IsLawful keys) (boxes : List Box3) where
     | inr same ↦ rw same.1 h
   ]
 
+  -- and it is there, where the packets are the root's
   root_here : (old new : List Node) (s : ℕ) (l r : Packet) → PutsRoot old new s l r → IsRoot old l r →
       IsFullRow keys boxes 0 (root_row s l r) → HasRow keys boxes new 0
   root_here old new s l r puts is full = elim puts [
@@ -92,15 +93,18 @@ module _ (keys : List Key) (ok : IsLawful keys) (boxes : List Box3) where
       (l_is : l ≡ child_packet keys boxes t Left)
       (r_is : r ≡ child_packet keys boxes t Right) (a b c d : List Node) (count : length c ≡ length keys - 1)
       (puts_left : PutsChild a b t l) (puts_right : PutsChild b c k r) (puts_root : PutsRoot c d t l r) where
+    -- the node that its split names
     node : Named keys ok t
     node = named keys ok t (omega (arith, lt))
 
+    -- the left child's row is right, where that is an inner node
     left_full : l.first < l.last → IsFullRow keys boxes t (row l)
     left_full less =
         let tells = left_tells keys ok boxes t l node.node node.parts l_is in
         let low : node.first < t = omega (arith, less, tells.first, tells.last) in
         tells_row keys ok boxes node.first t l tells low (left_of node.node node.parts low)
 
+    -- so is the right child's
     right_full : r.first < r.last → IsFullRow keys boxes k (row r)
     right_full less =
         let tells = right_tells keys ok boxes t r node.node node.parts r_is in
@@ -108,6 +112,7 @@ module _ (keys : List Key) (ok : IsLawful keys) (boxes : List Box3) where
         subst (λ z. IsFullRow keys boxes z (row r)) (sym next)
         (tells_row keys ok boxes (suc t) node.last r tells high (right_of node.node node.parts high))
 
+    -- and the root's, where the node is the root
     root_full : IsRoot c l r → IsFullRow keys boxes 0 (root_row t l r)
     root_full is =
         let lefts = left_tells keys ok boxes t l node.node node.parts l_is in
@@ -130,6 +135,7 @@ module _ (keys : List Key) (ok : IsLawful keys) (boxes : List Box3) where
     stays x h = root_kept c d t l r puts_root root_full x
         (child_kept b c k r puts_right right_full x (child_kept a b t l puts_left left_full x h))
 
+    -- so one node more is written
     written : AreWritten keys boxes t a → AreWritten keys boxes (t + 1) d
     written w = record {
       lefts = λ i x y s n e low less. elim (cases_lt s t) [

@@ -45,11 +45,13 @@ each_of_two P a b x y (suc (suc k)) d lt = absurd (omega arith)
 -- a handoff of two seats, both of which have climbed
 module _ (h : Handoff) (a b a' b' : HandSeat) (two : (given_by h).seats ≡ 2) (f : AreFresh h (a ∷ b ∷ []))
     (first : Climbs h a a') (second : Climbs h b b') where
+  -- each number is one of the two
   each_is_there : (k : ℕ) → k < 2 → Any (λ s. s.number ≡ k) (b' ∷ a' ∷ [])
   each_is_there zero lt = (1, a', omega arith, refl, first.number ∙ f.numbers 0 a (omega arith))
   each_is_there (suc zero) lt = (0, b', omega arith, refl, second.number ∙ f.numbers 1 b (omega arith))
   each_is_there (suc (suc k)) lt = absurd (omega arith)
 
+  -- so they are all seats, and all have climbed
   pub two_done : AreAll h (b' ∷ a' ∷ [])
   two_done = record {
     made = f.made;

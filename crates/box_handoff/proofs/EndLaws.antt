@@ -21,11 +21,13 @@ use Rattle.radix_tree.specs.declared.nodes.Node.{Node}
 use Rattle.box_handoff.specs.Ends.{AreEnds, AreEndsBelow}
 
 module _ (keys : List Key) (ok : IsLawful keys) where
+  -- a split's row is that of a node with this number and range
   record IsAt (s i a b : ℕ) : Type 0 where
     pub number : (row_of keys s).number ≡ i
     pub first : (row_of keys s).first ≡ a
     pub last : (row_of keys s).last ≡ b
 
+  -- it is so for the split of a node
   row_at_split : {i a b : ℕ} → IsNode keys i a b → (s : ℕ) → s ≡ split keys a b → IsAt s i a b
   row_at_split {i} {a} {b} d s e = let r = ap (row_of keys) e ∙ row_of_is keys ok d in
       record {

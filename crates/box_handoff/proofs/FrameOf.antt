@@ -60,9 +60,11 @@ listed_live g i lt = list_any_at (λ q. nat_le (slice_index g.live i) q && nat_l
     (rw (le-leb (slice_index g.live i) (slice_index g.live i) (omega arith)) refl)
 
 module _ (g : Given) (ok : IsGiven g) where
+  -- the task that was given is one
   task : IsTask (setting_of g)
   task = ok.task
 
+  -- no more leaves are live than there are keys
   pub live_few : length g.live ≤ length g.keys
   live_few = rising_short g.live (length g.keys) task.rising task.within
 
@@ -90,12 +92,15 @@ module _ (g : Given) (ok : IsGiven g) where
   pub nodes_low : (frame g).nodes ≤ 2 ^ 20
   nodes_low = omega (arith, nodes_is, task.lawful.few)
 
+  -- that of batches
   pub batches_low : (frame g).batches ≤ 2 ^ 20
   batches_low = omega (arith, batches_is, live_few, task.lawful.few)
 
+  -- that of workers
   workers_low : (frame g).workers ≤ 64
   workers_low = omega (arith, workers_is, ok.few)
 
+  -- one worker climbs at least
   some_worker : 0 < (frame g).workers
   some_worker = omega (arith, workers_is, task.one_worker)
 

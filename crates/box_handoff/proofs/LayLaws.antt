@@ -204,6 +204,7 @@ module _ (m : Moves) (ok : AreMoves m) where
         subst (λ (n : ℕ). (row_of m.tree.now.keys n).first ≡ x.first) (sym y.split_is)
         (ap (λ r. r.first) (row_of_is m.tree.now.keys ok.table.lawful y.node))
 
+    -- and so is its end
     row_last : (row_of m.tree.now.keys x.split).last ≡ x.last
     row_last =
         let y = read m.tree.now ok.table k lt x e in

@@ -124,17 +124,21 @@ module _ (f : Frame) where
       ∙ place_at (splits_of f) (splits_rise f 0 f.nodes) i l
 
 module _ (g : Given) (ok : IsGiven g) where
+  -- the numbers of live nodes are places in their list, each node's own
   pub numbered : IsNumbered (frame g) (numbers g)
   unfolding numbers
   numbered = numbered_so (frame g) g.spots ok.spots
 
+  -- there are as many as live nodes
   pub counted : (numbers g).count ≡ length (splits_of (frame g))
   unfolding numbers
   counted = counted_so (frame g) g.spots ok.spots
 
+  -- no more than there are inner nodes
   pub count_low : (numbers g).count ≤ (frame g).nodes
   count_low = let s = splits_short (frame g) 0 (frame g).nodes in omega (arith, counted, s)
 
+  -- the split at a place of the list has that number
   pub listed : (i : ℕ) → i < length (splits_of (frame g)) → (numbers g).number (slice_index (splits_of (frame g)) i) ≡ i
   unfolding numbers
   listed = listed_so (frame g) g.spots ok.spots
@@ -152,10 +156,12 @@ module _ (g : Given) (ok : IsGiven g) where
   unfolding numbers numbers_in
   count_none e = ap (λ (o : Option (List ℕ)). (numbers_in (frame g).nodes o).count) e
 
+  -- a node's number is its split
   pub number_none : (t : ℕ) → g.spots ≡ None → t ≡ (numbers g).number t
   unfolding numbers numbers_in
   number_none t e = sym (ap (λ (o : Option (List ℕ)). (numbers_in (frame g).nodes o).number t) e)
 
+  -- and every split is live, at its own place
   pub spot_none : g.spots ≡ None → (i : ℕ) → i < (numbers g).count → i ≡ slice_index (splits_of (frame g)) i
   spot_none e i l =
       let all : AreSpots (frame g) None = subst (AreSpots (frame g)) e ok.spots in
@@ -165,20 +171,25 @@ module _ (g : Given) (ok : IsGiven g) where
 
   -- with one
   module _ (xs : List ℕ) (e : g.spots ≡ Some xs) where
+    -- it is the list of live splits
     pub spots_are : xs ≡ splits_of (frame g)
     spots_are = subst (AreSpots (frame g)) e ok.spots
 
+    -- its length is the count
     pub count_some : (numbers g).count ≡ length xs
     unfolding numbers numbers_in
     count_some = ap (λ (o : Option (List ℕ)). (numbers_in (frame g).nodes o).count) e
 
+    -- a node's number is where its split is found
     pub number_some : (t : ℕ) → place_in xs t ≡ (numbers g).number t
     unfolding numbers numbers_in
     number_some t = sym (ap (λ (o : Option (List ℕ)). (numbers_in (frame g).nodes o).number t) e)
 
+    -- it rises
     pub rising_some : AllPairs (λ p q. p < q) xs
     rising_some = subst (AllPairs (λ p q. p < q)) (sym spots_are) (splits_rise (frame g) 0 (frame g).nodes)
 
+    -- a live node's split is in it
     pub there_some : (t : ℕ) → Shown (frame g) t → place_in xs t < length xs
     there_some t seen = let w = numbered.within t seen in omega (arith, w, count_some, number_some t)
 

@@ -94,6 +94,7 @@ module _ (g : Given) (id : ℕ) (me : Mine) (is : me.0 ≡ one g (mine me)) (l :
         (side_set f N h.numbered s.words l.split (0 + side_no l.side) h.shows.word_count seen 0 l.side
         (by_word f m.opened) refl h.shows.opened)
 
+    -- the bits of the slots that are handed out, likewise
     handed : (b : Bool) → here.has ≡ b →
         ShowsSide f N (with_bit s.words here.word (opened_bit b + side_no l.side)) 7
         (by_slot f opened')

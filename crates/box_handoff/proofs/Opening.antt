@@ -214,14 +214,17 @@ module _ (g : Given) (ok : IsGiven g) where
   abbrev f : Frame
   f = frame g
 
+  -- there is one view
   only : (id : ℕ) (v : View) → get_elem? (first_view g ∷ []) id ≡ some v → first_view g ≡ v
   only zero v e = some-injective (first_view g) v e
   only (suc id) v e = absurd (some-ne-none v (sym e))
 
+  -- its entries are the seats, none begun
   entries : (id : ℕ) (v : View) → get_elem? (first_view g ∷ []) id ≡ some v → (e : Entry) → In e v.entries →
       (k : ℕ) × (k < g.seats) × (e ≡ unbegun k)
   entries id v at e is = in_below g.seats e (subst (λ (x : View). In e x.entries) (sym (only id v at)) is)
 
+  -- so each worker has one entry, in one view, which tells what it has done
   rostered : Rostered g (first_view g ∷ []) (started f).worker
   unfolding started after_all
   rostered = record {
@@ -235,6 +238,7 @@ module _ (g : Given) (ok : IsGiven g) where
     worker = λ id v at e is. let t = entries id v at e is in ap worker_of (sym t.2);
   }
 
+  -- the words and slots show the machine's start
   shown : (words : List ℕ) (slots : List SlotPacket) → Starts f (numbers g) words slots →
       Shows f (numbers g) words (map some slots) (started f)
   unfolding started
@@ -298,6 +302,7 @@ module _ (g : Given) (whole : IsWhole (setting_of g)) (none : g.spots ≡ None)
   ok : IsGiven g
   ok = whole_given g whole none tree
 
+  -- so they do
   pub whole_starts : (words : List ℕ) (slots : List SlotPacket) →
       words ≡ replicate ((frame g).batches + (frame g).nodes) 0 → slots ≡ replicate ((frame g).nodes + 1) blank →
       Starts (frame g) (numbers g) words slots

@@ -29,6 +29,7 @@ pub record Tells (keys : List Key) (boxes : List Box3) (a b : ℕ) (p : Packet) 
   pub part : a < b → p.split ≡ split keys a b
 
 module _ (keys : List Key) (ok : IsLawful keys) (boxes : List Box3) where
+  -- the packet of a range tells its ends, its least box and its split
   packet_tells : (a b : ℕ) → IsRange keys a b → Tells keys boxes a b (packet_of keys boxes (below keys a b))
   unfolding packet_of
   packet_tells a b r = elim (cases_eq a b) [
@@ -72,6 +73,7 @@ module _ (keys : List Key) (ok : IsLawful keys) (boxes : List Box3) where
       (child_left keys ok d))))
       (packet_tells a s (left (range_of_node keys ok d) (proper keys ok d) e))
 
+  -- and that of its right child
   pub right_tells : {i a b : ℕ} (s : ℕ) (p : Packet) → IsNode keys i a b → split keys a b ≡ s →
       p ≡ child_packet keys boxes s Right →
       Tells keys boxes (suc s) b p

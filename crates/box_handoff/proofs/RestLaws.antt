@@ -179,6 +179,7 @@ module _ (g : Given) (ok : IsGiven g) where
     resting : IsResting g t
     resting = subst (Rests g) tree ok.rests
 
+    -- it has a node for each split of the frame
     pub nodes_same : (s : ℕ) → s < (frame g).nodes → s < length t.nodes
     unfolding frame frame_of
     nodes_same s lt =

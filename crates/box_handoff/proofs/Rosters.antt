@@ -155,12 +155,15 @@ module _ (g : Given) (views : List View) (workers : ℕ → Worker) (r : Rostere
   abbrev both : View
   both = view_of v.given (v.entries ++ w.entries)
 
+  -- the other view was there before
   was_there : get_elem? views other ≡ some w
   was_there = sym (set_else views id other both apart) ∙ there
 
+  -- the one that is spent has no entry
   none_in : (e : Entry) → In e spent.entries → ⊥
   none_in e is = let z = subst (λ (l : List Entry). In e l) none_left is in some-ne-none e (sym z.1)
 
+  -- each entry of the new list of views stood in one of the old ones, and is of the same handoff
   origin : (j : ℕ) (u : View) → get_elem? (set (set views id both) other spent) j ≡ some u → (e : Entry) →
       In e u.entries → ((i : ℕ) × (x : View) × (get_elem? views i ≡ some x) × In e x.entries) × (u.given ≡ g)
   origin j u here e is = ⊎_elim

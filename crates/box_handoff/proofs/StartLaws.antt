@@ -56,14 +56,17 @@ module _ (m : Moves) (ok : AreMoves m) where
     rests = record { keys_are = refl; table = ok.table; rest = ok.rest };
   }
 
+  -- its frame is that over which the lists are made
   over_is : over m ≡ frame g
   unfolding frame
   over_is = refl
 
+  -- with as many batches as the live list has
   batches_are : (frame g).batches ≡ batch_count m.live.now
   unfolding frame frame_of
   batches_are = refl
 
+  -- and as many numbers as live splits
   count_is : (numbers g).count ≡ length (splits_of (over m))
   count_is = count_some g live_given (splits_of (over m)) refl
 

@@ -57,6 +57,7 @@ module _ (g : Given) (ok : IsGiven g) (whole : IsWhole (setting_of g)) where
   child_more t d lt on = subst (λ (p : Packet). p.first < p.last) (child_is g t d)
       (below_more ((frame g).child t d) (λ k e. (frame_is g ok).child_node t d k lt e) on)
 
+  -- one that has no slot is a leaf: it begins where it ends
   child_one : (t : ℕ) (d : Side) → t < (frame g).nodes → slotted (frame g) t d ≡ false →
       (child_packet g.keys g.boxes t d).last ≡ (child_packet g.keys g.boxes t d).first
   unfolding slotted packet_at

@@ -69,20 +69,24 @@ total_same f h (e ∷ es) same = let a = same e (zero, refl) in
 -- a view that has every number counts what all workers count
 module _ (g : Given) (id : ℕ) (v : View) (words : List ℕ) (slots : List SlotPacket)
     (fin : Final (Seen (Rule g) id v) words slots) (all : (k : ℕ) → k < g.seats → Covers k v) where
+  -- what is seen at the end keeps the rule
   rule : Rule g fin.0
   rule = fin.1.0
 
+  -- every worker has ended
   ended : (k : ℕ) → k < (frame g).workers → (rule.machine.worker k).phase ≡ Ended
   ended k small = let c = all k (subst (λ (n : ℕ). k < n) (workers_are g) small) in
       ap (λ (n : ℕ). (rule.machine.worker n).phase) (sym c.2)
       ∙ ap (λ (w : Worker). w.phase) (rule.rostered.worker id v fin.1.1 c.0 c.1) ∙ c.3
 
+  -- every seat has one entry
   once : (k : ℕ) → k < g.seats → times k v.entries ≡ 1
   once k small = let c = all k small in
       let low = times_in k v.entries c.0 c.1 c.2 in
       let high = total_one (λ (x : View). times k x.entries) fin.0.views id v fin.1.1 in
       let one = rule.rostered.once k small in omega (arith, low, high, one)
 
+  -- so any count, summed over the entries, is that over all workers
   whole_count : (count : Tally → ℕ) → total (λ (e : Entry). count e.tally) v.entries ≡ over (frame g) rule.machine
       (λ w. count w.tally)
   unfolding over

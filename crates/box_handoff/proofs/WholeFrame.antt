@@ -40,6 +40,7 @@ module _ (g : Given) (ok : IsWhole (setting_of g)) where
 
 -- where all leaves are live, the splits of the live nodes are all numbers below the count of nodes
 module _ (g : Given) (given : IsGiven g) (ok : IsWhole (setting_of g)) where
+  -- as many, and each at its own place
   all_splits : (length (splits_of (frame g)) ≡ length g.keys - 1) ×
       ((i : ℕ) → i < length g.keys - 1 → slice_index (splits_of (frame g)) i ≡ 0 + i)
   unfolding frame frame_of
@@ -56,10 +57,12 @@ module _ (g : Given) (given : IsGiven g) (ok : IsWhole (setting_of g)) where
 
 -- the packets and the counts where all leaves are live
 module _ (x : Setting) (ok : IsWhole x) where
+  -- the frame has a node fewer than keys
   nodes_are : (frame_of x).nodes ≡ length x.keys - 1
   unfolding frame_of
   nodes_are = refl
 
+  -- the packets of the live nodes are those of all nodes
   packets_all : (d : Side) (packets : List Packet) →
       ArePacketsOf x.keys x.boxes (splits_of (frame_of x)) d (length (splits_of (frame_of x))) packets →
       ArePackets x.keys x.boxes d (length x.keys - 1) packets

@@ -17,6 +17,7 @@ module _ (keys : List Key) (ok : IsLawful keys) where
     pub is_before : before ≡ measure keys (a - 1) a
     pub is_after : after ≡ measure keys a (suc a)
 
+  -- two measures that were taken are those
   pub neighbours_of : (a before after : ℕ) → 0 < a → a + 1 < length keys → before ≡ measure keys (a - 1) a →
       after ≡ measure keys a (a + 1) → Neighbours a before after
   neighbours_of a before after inner inside p q =

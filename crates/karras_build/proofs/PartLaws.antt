@@ -80,6 +80,7 @@ module _ (x : Inputs) (ok : AreInputs x) where
         room = refl;
       }
 
+  -- and behind the split
   pub right_below : {i a b room : ℕ} → IsPart x.keys.now i a b room → 0 < room →
       let s : ℕ = (span_at x.spans.now i).split in IsPart x.keys.now (s + 1) (s + 1) b (b - (s + 1))
   right_below p some =

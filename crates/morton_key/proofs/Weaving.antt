@@ -30,6 +30,7 @@ module _ (x y z : ℕ) where
   abbrev three : ℕ → ℕ
   three k = 4 * bit_at x k + 2 * bit_at y k + bit_at z k
 
+  -- so says the definition
   interleaved_more : (k : ℕ) → interleaved (suc k) x y z ≡ three k * 2 ^ (3 * k) + interleaved k x y z
   unfolding interleaved
   interleaved_more k = omega (
@@ -81,6 +82,7 @@ module _ (x y z : ℕ) where
   woven u v w = bit_or (bit_or (u * 2 ^ 2 % 2 ^ 64) (v * 2 ^ 1 % 2 ^ 64)) w
 
   module _ (u v w : ℕ) (spread_x : IsSpread 1 x u) (spread_y : IsSpread 1 y v) (spread_z : IsSpread 1 z w) where
+    -- a bit of the woven word is the greatest of the three at its place
     woven_bit : (i : ℕ) →
         bit_at (woven u v w) i ≡ max (max (bit_at (u * 2 ^ 2 % 2 ^ 64) i) (bit_at (v * 2 ^ 1 % 2 ^ 64) i)) (bit_at w i)
     woven_bit i = bit_at_or (bit_or (u * 2 ^ 2 % 2 ^ 64) (v * 2 ^ 1 % 2 ^ 64)) w i
@@ -92,6 +94,7 @@ module _ (x y z : ℕ) where
     moved n word s i h lt le e = bit_at_shifted_above word s i lt le
         ∙ (h.inside (i - s) (omega arith) (omega arith) ∙ ap (bit_at n) (omega (arith, e)))
 
+    -- at all other places it is 0
     gone : (n word s i : ℕ) → IsSpread 1 n word → i < 64 → (s ≤ i → (i - s) % 3 ≢ 0) →
         bit_at (word * 2 ^ s % 2 ^ 64) i ≡ 0
     gone n word s i h lt ne = elim (cases_lt i s) [
@@ -100,6 +103,7 @@ module _ (x y z : ℕ) where
           ∙ h.between (i - s) (omega arith) (omega arith)
     ]
 
+    -- so each bit of the woven word is the one that the definition names
     woven_bits : (i : ℕ) → i < 64 → IsBitOf x y z (bit_at (woven u v w) i) i
     woven_bits i lt = record {
       first = λ r. omega (

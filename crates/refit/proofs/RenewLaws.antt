@@ -114,10 +114,12 @@ whole_task x task all few = record {
 
 -- counts over all keys are those of the live nodes, and of a refit
 module _ (x : Setting) (ok : IsWhole x) where
+  -- the frame has a node fewer than keys
   nodes_are : (frame_of x).nodes ≡ length x.keys - 1
   unfolding frame_of
   nodes_are = refl
 
+  -- the counts of a build are those of the live nodes, which are all
   live_counted : (t : Tally) → IsCounted (length x.keys) x.workers t → IsLiveCounted x t
   live_counted t h =
       let n = core.live_nodes_is x ok in
@@ -129,6 +131,7 @@ module _ (x : Setting) (ok : IsWhole x) where
         steps = omega (arith, h.steps, product, n, k, nodes_are, ok.two);
       }
 
+  -- and so those of a refit
   pub refit_counted : (t : Tally) → IsCounted (length x.keys) x.workers t → IsRefitCounted x t
   refit_counted t h = record {
     none = λ few. elim few [
