@@ -1,6 +1,6 @@
 -- The triangles of an `f` line, taken corner by corner.
 use Rattle.std.proofs.Common.{◌≡◌, ◌≤◌, ◌<◌, ◌+◌, ℕ, Bool, true, false, List, [], ◌∷◌, ◌++◌, length, length-append, append-nil, append_assoc, drop, cond, refl, sym, ap, ◌∙◌, arith, Ok, Err, Result}
-use Rattle.std.specs.Prelude.{nat_le, IfErr, ⊤}
+use Rattle.std.specs.Prelude.{nat_le, IfErr, ⊤, Option}
 use Rattle.fixed_box.specs.declared.shapes.Point.{Point}
 use Rattle.obj_text.specs.Rows.{Given, Triangles, onward, position_of, positions_of, fan_from, fan, more_triangles, triangles_of, vertex_of}
 use Rattle.obj_text.specs.Steps.{IsAdded, IsLineFault, IsOutcome, extended, few, fan_left, all_three, first_corners_of}
@@ -178,7 +178,7 @@ fan_is_line faces outcome rest (Err (Faulty why)) e p = extended_fault faces out
 fan_is_line faces outcome rest (Err Memory) e p = tt
 
 -- triangles are added where there is room
-few_by : (k : Bool) (points : List Point) (faces more all : List Face) (name : List ℕ)
+few_by : (k : Bool) (points : List Point) (faces more all : List Face) (name : Option (List ℕ))
     → extended faces (cond k (Ok (Triangles more)) (Err TooManyTriangles)) ≡ Ok all
     → IsAdded (cond k (Ok (Triangles more)) (Err TooManyTriangles)) points points faces all name name
 few_by true points faces more all name e =
@@ -187,7 +187,7 @@ few_by true points faces more all name e =
 few_by false points faces more all name e = absurd (cc)
 
 -- so are those of corners that are read
-added_by : (corners : Result (List ℕ) Why) (points : List Point) (faces all : List Face) (name : List ℕ)
+added_by : (corners : Result (List ℕ) Why) (points : List Point) (faces all : List Face) (name : Option (List ℕ))
     → extended faces (onward corners (λ cs. more_triangles (length faces) (fan cs))) ≡ Ok all
     → IsAdded (onward corners (λ cs. more_triangles (length faces) (fan cs))) points points faces all name name
 added_by (Err why) points faces all name e = absurd (cc)
@@ -196,7 +196,7 @@ added_by (Ok cs) points faces all name e =
 
 -- a line of triangles adds faces alone
 pub triangles_added : (vertices before : ℕ) (words : List (List ℕ)) (points : List Point) (faces all : List Face)
-    (name : List ℕ) → extended faces (triangles_of vertices before (length faces) words) ≡ Ok all
+    (name : Option (List ℕ)) → extended faces (triangles_of vertices before (length faces) words) ≡ Ok all
     → IsAdded (triangles_of vertices before (length faces) words) points points faces all name name
 triangles_added vertices before [] points faces all name e = absurd (cc)
 triangles_added vertices before (x ∷ []) points faces all name e = absurd (cc)

@@ -35,7 +35,7 @@ onward_ok (Err why) f y e = absurd (cc)
 onward_ok (Ok x) f y e = (x, refl, e)
 
 -- a choice that gives a value holds, and gives that value
-cond_ok : {A : Type 0} (k : Bool) (x : A) (why : Why) (y : A) → cond k (Ok x) (Err why) ≡ Ok y → (k ≡ true) × (x ≡ y)
+pub cond_ok : {A : Type 0} (k : Bool) (x : A) (why : Why) (y : A) → cond k (Ok x) (Err why) ≡ Ok y → (k ≡ true) × (x ≡ y)
 cond_ok true x why y e = (refl, cc)
 cond_ok false x why y e = absurd (cc)
 

@@ -85,7 +85,7 @@ places_stay groups y (x ∷ names) all =
     (places_in groups names) all))
 
 -- what is made of equal names is equal
-map_replicate : (f : List ℕ → ℕ) (n : ℕ) (y : List ℕ) → map f (replicate n y) ≡ replicate n (f y)
+pub map_replicate : {A B : Type 0} (f : A → B) (n : ℕ) (y : A) → map f (replicate n y) ≡ replicate n (f y)
 map_replicate f zero y = refl
 map_replicate f (suc n) y = ap (λ k. f y ∷ k) (map_replicate f n y)
 

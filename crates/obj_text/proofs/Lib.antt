@@ -9,12 +9,12 @@ pub mod Runs
 pub mod Readings
 pub mod Faultless
 pub mod Outcomes
-pub mod CurrentName
+pub mod PlacedLines
 pub mod Appending
 pub mod Renumbering
 pub mod TrianglesBefore
 pub mod AppendedParts
-pub mod GroupNames
+pub mod Anywhere
 pub mod SectionLists
 pub mod HeightFields
 pub mod FieldMeshes

@@ -1,5 +1,6 @@
 -- Lines that are read in one pass, and what they give.
 use Rattle.std.proofs.Common.{◌≡◌, ◌<◌, ◌≤◌, ◌+◌, ◌-◌, ◌^◌, ℕ, true, false, List, [], ◌∷◌, ◌++◌, cond, length, take, drop, take_all, slice_index_or, codes, nat_lt, refl, sym, ap, ◌∙◌, subst, append-nil, arith, ℤ, Ok, Err, Result}
+use Rattle.std.specs.Prelude.{Option}
 use Rattle.std.proofs.lemmas.Bool.Decides.{nat_tests}
 use Rattle.fixed_box.specs.declared.shapes.Point.{Point}
 use Rattle.text_words.specs.Lines.{lines_of}
@@ -120,7 +121,7 @@ append_none : {A : Type 0} (xs : List A) → xs ≡ xs ++ []
 append_none xs = sym (append-nil xs)
 
 -- one point more
-vertex_added : (outcome : Result Given Why) (points : List Point) (faces : List Face) (name : List ℕ) (point : Point)
+vertex_added : (outcome : Result Given Why) (points : List Point) (faces : List Face) (name : Option (List ℕ)) (point : Point)
     → outcome ≡ Ok (Vertex point)
     → IsAdded outcome points (points ++ point ∷ []) faces faces name name
 vertex_added outcome points faces name point e =
@@ -132,22 +133,22 @@ vertex_added outcome points faces name point e =
 
 -- a plain `v` line is read
 pub point_read : (unit vertices before number : ℕ) (text : List ℕ) (point : Point) (rest : List ℕ)
-    (lines left : List JoinedLine) (points : List Point) (faces : List Face) (name : List ℕ)
-    → BeginsWithPoint unit text point rest → before + length points < MOST_POINTS
+    (lines left : List JoinedLine) (points : List Point) (faces : List Face) (name : Option (List ℕ))
+    → BeginsWithPoint unit text point rest → before < MOST_POINTS
     → lines ≡ joined_lines (number + 1) (lines_of text) → left ≡ joined_lines (number + 1 + 1) (lines_of rest)
     → ReadsOne unit vertices before lines left points (points ++ point ∷ []) faces faces name
 point_read unit vertices before number text point rest lines left points faces name p room e f = record {
   line = record { number = number + 1; words = codes "v" ∷ p.first ∷ p.second ∷ p.third ∷ [] };
   lines_are = e ∙ plain_first (number + 1) text (codes "v" ∷ p.first ∷ p.second ∷ p.third ∷ []) rest p.row
       ∙ ap (λ l. record { number = number + 1; words = codes "v" ∷ p.first ∷ p.second ∷ p.third ∷ [] } ∷ l) (sym f);
-  added = vertex_added (given_of unit vertices (before + length points) (length faces)
+  added = vertex_added (given_of unit vertices before (length faces)
       (codes "v" ∷ p.first ∷ p.second ∷ p.third ∷ [])) points faces name point
-      (vertex_known unit (before + length points) p.first p.second p.third point p.point_is room);
+      (vertex_known unit before p.first p.second p.third point p.point_is room);
 }
 
 -- a face more
 triangle_added : (vertices before : ℕ) (text : List ℕ) (a b c : ℕ) (rest : List ℕ) (i j k : ℕ) (points : List Point)
-    (faces : List Face) (name : List ℕ) (p : BeginsWithNumbers text a b c rest)
+    (faces : List Face) (name : Option (List ℕ)) (p : BeginsWithNumbers text a b c rest)
     → all_three (position vertices 0 false a) (position vertices 0 false b) (position vertices 0 false c) ≡ Ok (i, j, k)
     → length faces < MOST_FACES
     → IsAdded (triangles_of vertices before (length faces) (p.first ∷ p.second ∷ p.third ∷ []))
@@ -170,7 +171,7 @@ triangle_added vertices before text a b c rest i j k points faces name p e room 
 
 -- a plain `f` line is read
 pub numbers_read : (unit vertices before number : ℕ) (text : List ℕ) (a b c : ℕ) (rest : List ℕ) (i j k : ℕ)
-    (lines left : List JoinedLine) (points : List Point) (faces : List Face) (name : List ℕ)
+    (lines left : List JoinedLine) (points : List Point) (faces : List Face) (name : Option (List ℕ))
     → BeginsWithNumbers text a b c rest → length faces < MOST_FACES
     → all_three (position vertices 0 false a) (position vertices 0 false b) (position vertices 0 false c) ≡ Ok (i, j, k)
     → lines ≡ joined_lines (number + 1) (lines_of text) → left ≡ joined_lines (number + 1 + 1) (lines_of rest)
@@ -179,5 +180,5 @@ numbers_read unit vertices before number text a b c rest i j k lines left points
   line = record { number = number + 1; words = codes "f" ∷ p.first ∷ p.second ∷ p.third ∷ [] };
   lines_are = f ∙ plain_first (number + 1) text (codes "f" ∷ p.first ∷ p.second ∷ p.third ∷ []) rest p.row
       ∙ ap (λ l. record { number = number + 1; words = codes "f" ∷ p.first ∷ p.second ∷ p.third ∷ [] } ∷ l) (sym g);
-  added = triangle_added vertices (before + length points) text a b c rest i j k points faces name p e room;
+  added = triangle_added vertices before text a b c rest i j k points faces name p e room;
 }

@@ -1,18 +1,18 @@
--- Sections put behind others, and what they say of lines behind them all.
-use Rattle.std.proofs.Common.{◌≡◌, ℕ, ◌+◌, ◌-◌, ◌≤◌, List, [], ◌∷◌, ◌++◌, length, map, take, drop, take_all, refl, sym, ap, ap₂, subst, ◌∙◌, append_assoc, arith}
+-- Sections put behind others, their lines and their vertices.
+use Rattle.std.proofs.Common.{◌≡◌, ℕ, ◌+◌, ◌-◌, ◌≤◌, Bool, true, List, [], ◌∷◌, ◌++◌, length, map, take, drop, take_all, refl, sym, ap, ap₂, subst, ◌∙◌, append_assoc, arith}
 use Rattle.std.specs.Prelude.{All, Option, None, Some, IfSome, slice_index_or}
-use Rattle.std.specs.Option.{option_map, option_or}
 use Rattle.std.proofs.lemmas.List.{map-append, take-append-drop}
 use Rattle.std.proofs.lemmas.List.Elements.{All-append, All-head, All-tail, All-take, All-drop}
 use Rattle.text_words.specs.Joins.{JoinedLine, joined_lines_of}
 use Rattle.text_words.specs.Halves.{moved_by}
 use Rattle.obj_text.specs.Texts.{vertices_of}
-use Rattle.obj_text.specs.Sections.{unnumbered, lines_in, IsAhead, IsCounted, AreSections}
-use Rattle.obj_text.specs.declared.ahead.Ahead.{Ahead}
+use Rattle.obj_text.specs.Places.{place_behind}
+use Rattle.obj_text.specs.Sections.{unnumbered, lines_in, is_counted, IsSection, AreSections}
+use Rattle.obj_text.specs.declared.place.Place.{Place}
+use Rattle.obj_text.specs.declared.place.Place.TheVariants.{Behind, Anywhere}
 use Rattle.obj_text.specs.declared.sections.Section.{Section}
 use Rattle.obj_text.proofs.Appending.{vertices_of-append}
 use Rattle.obj_text.proofs.Renumbering.{vertices_of-renumbered}
-use Rattle.obj_text.proofs.GroupNames.{last_group-append, now-option_or}
 
 -- the lines of sections and of those behind them
 pub lines_in-append : (xs ys : List Section) → lines_in (xs ++ ys) ≡ lines_in xs ++ lines_in ys
@@ -27,10 +27,10 @@ unnumbered-moved n [] = refl
 unnumbered-moved n (line ∷ lines) = ap (λ k. unnumbered line ∷ k) (unnumbered-moved n lines)
 
 -- the sections of a text are those of its first part and then those of its second
-both_sections : (n : ℕ) (xs ys : List Section) (front back all : List JoinedLine) → all ≡ front ++ map (moved_by n) back
-    → AreSections xs front → AreSections ys back → AreSections (xs ++ ys) all
-both_sections n xs ys front back all e first second = record {
-  each = All-append IsCounted xs ys first.each second.each;
+both_sections : (k : Bool) (n : ℕ) (xs ys : List Section) (front back all : List JoinedLine) → all ≡ front ++ map (moved_by n) back
+    → AreSections k xs front → AreSections k ys back → AreSections k (xs ++ ys) all
+both_sections k n xs ys front back all e first second = record {
+  each = All-append (IsSection k) xs ys first.each second.each;
   same = ap (map unnumbered) (lines_in-append xs ys)
       ∙ map-append unnumbered (lines_in xs) (lines_in ys)
       ∙ ap (λ k. k ++ map unnumbered (lines_in ys)) first.same
@@ -40,23 +40,13 @@ both_sections n xs ys front back all e first second = record {
 }
 
 -- the same of a list that may be there
-pub both_if_there : {V : Type 0} (items : V → List Section) (n : ℕ) (xs ys : List Section)
+pub both_if_there : {V : Type 0} (k : Bool) (items : V → List Section) (n : ℕ) (xs ys : List Section)
     (front back all : List JoinedLine) (result : Option V) → all ≡ front ++ map (moved_by n) back
-    → AreSections xs front → AreSections ys back → IfSome result (λ v. items v ≡ xs ++ ys)
-    → IfSome result (λ v. AreSections (items v) all)
-both_if_there items n xs ys front back all None e first second h = tt
-both_if_there items n xs ys front back all (Some v) e first second h =
-    subst (λ k. AreSections k all) (sym h) (both_sections n xs ys front back all e first second)
-
--- what lines say and what those behind them say is what they all say
-pub ahead_of_both : (xs ys : List JoinedLine) (first later both : Ahead) → IsAhead xs first → IsAhead ys later
-    → both.vertices ≡ first.vertices + later.vertices → both.name ≡ option_or later.name first.name
-    → IsAhead (xs ++ ys) both
-ahead_of_both xs ys first later both a b v n = record {
-  vertices = v ∙ ap₂ (λ j k. j + k) a.vertices b.vertices ∙ sym (vertices_of-append xs ys);
-  name = ap (option_map (λ name. name.now)) n ∙ now-option_or later.name first.name ∙ ap₂ option_or b.name a.name
-      ∙ sym (last_group-append xs ys);
-}
+    → AreSections k xs front → AreSections k ys back → IfSome result (λ v. items v ≡ xs ++ ys)
+    → IfSome result (λ v. AreSections k (items v) all)
+both_if_there k items n xs ys front back all None e first second h = tt
+both_if_there k items n xs ys front back all (Some v) e first second h =
+    subst (λ l. AreSections k l all) (sym h) (both_sections k n xs ys front back all e first second)
 
 -- a list that is not empty is its first section and those behind it
 pub first_and_later : (none : Section) (sections : List Section) → 1 ≤ length sections
@@ -65,26 +55,23 @@ first_and_later none [] some = absurd (omega (arith, some))
 first_and_later none (first ∷ later) some =
     ap (λ k. first ∷ k) (sym (take_all (length (first ∷ later) - 1) later (omega arith)))
 
--- the sections behind the first are counted too
-pub later_counted : (sections later : List Section) (first : Section) → sections ≡ first ∷ later
-    → All IsCounted sections → All IsCounted later
-later_counted sections later first e all = All-tail IsCounted first later (subst (All IsCounted) e all)
+-- what is known of a list of counted sections, its first one and those behind that
+pub record FirstOf (sections later : List Section) (first : Section) : Type 0 where
+  pub vertices : vertices_of (lines_in sections) ≡ first.vertices + vertices_of (lines_in later)
+  pub counted : All (IsSection true) later
 
--- and have no more vertices
-pub later_few : (sections later : List Section) (first : Section) → sections ≡ first ∷ later
-    → vertices_of (lines_in sections) ≡ vertices_of (joined_lines_of first.text.now) + vertices_of (lines_in later)
-later_few sections later first e =
-    ap (λ k. vertices_of (lines_in k)) e ∙ vertices_of-append (joined_lines_of first.text.now) (lines_in later)
-
--- what the first section says and what those behind it say is what they all say
-pub ahead_of_first : (sections later : List Section) (first : Section) (behind both : Ahead) → sections ≡ first ∷ later
-    → All IsCounted sections → IsAhead (lines_in later) behind
-    → both.vertices ≡ first.ahead.vertices + behind.vertices → both.name ≡ option_or behind.name first.ahead.name
-    → IsAhead (lines_in sections) both
-ahead_of_first sections later first behind both e all a v n =
-    let own = All-head IsCounted first later (subst (All IsCounted) e all) in
-    subst (λ k. IsAhead (lines_in k) both) (sym e)
-    (ahead_of_both (joined_lines_of first.text.now) (lines_in later) first.ahead behind both own.ahead a v n)
+-- so it is wherever a list has a first section
+pub first_of : (sections later : List Section) (first : Section) → sections ≡ first ∷ later
+    → All (IsSection true) sections → FirstOf sections later first
+first_of sections later first e all =
+    let each = subst (All (IsSection true)) e all in
+    let own = (All-head (IsSection true) first later each).vertices refl in
+    record {
+      vertices = ap (λ k. vertices_of (lines_in k)) e
+          ∙ vertices_of-append (joined_lines_of first.text.now) (lines_in later)
+          ∙ ap (λ n. n + vertices_of (lines_in later)) (sym own);
+      counted = All-tail (IsSection true) first later each;
+    }
 
 -- a list cut in two has the vertices of both
 vertices_of_halves : (n : ℕ) (sections left right : List Section) → left ≡ take n sections → right ≡ drop n sections
@@ -103,28 +90,33 @@ lines_of_halves n sections left right l r =
     ∙ ap₂ (λ j k. lines_in (j ++ k)) (sym l) (sym r)
     ∙ lines_in-append left right
 
--- what is known of a list of counted sections and its two halves
-pub record Halves (sections left right : List Section) : Type 0 where
+-- what is known of a list of sections, counted or not, and its two halves
+pub record Halves (k : Bool) (sections left right : List Section) : Type 0 where
   pub vertices : vertices_of (lines_in sections) ≡ vertices_of (lines_in left) + vertices_of (lines_in right)
   pub lines : lines_in sections ≡ lines_in left ++ lines_in right
-  pub first : All IsCounted left
-  pub second : All IsCounted right
+  pub first : All (IsSection k) left
+  pub second : All (IsSection k) right
 
 -- so it is wherever the list is cut
-pub halves : (n : ℕ) (sections : List Section) {left right : List Section} → left ≡ take n sections →
-    right ≡ drop n sections → All IsCounted sections → Halves sections left right
-halves n sections {left = left} {right = right} l r each = record {
+pub halves : (k : Bool) (n : ℕ) (sections : List Section) {left right : List Section} → left ≡ take n sections →
+    right ≡ drop n sections → All (IsSection k) sections → Halves k sections left right
+halves k n sections {left = left} {right = right} l r each = record {
   vertices = vertices_of_halves n sections left right l r;
   lines = lines_of_halves n sections left right l r;
-  first = subst (All IsCounted) (sym l) (All-take IsCounted n sections each);
-  second = subst (All IsCounted) (sym r) (All-drop IsCounted n sections each);
+  first = subst (All (IsSection k)) (sym l) (All-take (IsSection k) n sections each);
+  second = subst (All (IsSection k)) (sym r) (All-drop (IsSection k) n sections each);
 }
 
 -- the sections of a text have its vertices
-pub vertices_of_sections : (sections all : List Section) (lines : List JoinedLine) → all ≡ sections
-    → AreSections sections lines → vertices_of (lines_in all) ≡ vertices_of lines
-vertices_of_sections sections all lines e s =
+pub vertices_of_sections : (k : Bool) (sections all : List Section) (lines : List JoinedLine) → all ≡ sections
+    → AreSections k sections lines → vertices_of (lines_in all) ≡ vertices_of lines
+vertices_of_sections k sections all lines e s =
     ap (λ k. vertices_of (lines_in k)) e
     ∙ sym (vertices_of-renumbered (λ l. 0) (lines_in sections))
     ∙ ap vertices_of s.same
     ∙ vertices_of-renumbered (λ l. 0) lines
+
+-- behind sections a part's vertices are counted where they were
+pub counted_behind : (place : Place) (more : ℕ) → is_counted (place_behind place more) ≡ is_counted place
+counted_behind (Behind vertices) more = refl
+counted_behind Anywhere more = refl

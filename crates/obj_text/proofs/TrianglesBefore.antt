@@ -5,7 +5,9 @@ use Rattle.std.specs.Str.{bytes_eq}
 use Rattle.std.proofs.lemmas.Bool.Decides.{nat_tests}
 use Rattle.text_words.specs.Joins.{JoinedLine}
 use Rattle.obj_text.specs.Rows.{Given, Nothing, Triangles, GroupName, onward, positions_of, fan, more_triangles, vertex_of, triangles_of, name_of, given_of, is_vertex}
-use Rattle.obj_text.specs.Texts.{readings, faces_in, first_faulty, fault_or, faces_read, FaultyLine}
+use Rattle.obj_text.specs.Places.{before, readings_at}
+use Rattle.obj_text.specs.declared.place.Place.{Place}
+use Rattle.obj_text.specs.Texts.{faces_in, first_faulty, fault_or, faces_read, FaultyLine}
 use Rattle.obj_text.specs.declared.face.Face.{Face}
 use Rattle.obj_text.specs.declared.fault.Why.{Why}
 use Rattle.obj_text.specs.declared.fault.Why.TheVariants.{TooManyTriangles}
@@ -86,25 +88,25 @@ faultless_by number (Ok given) later e = (tt, e)
 faultless_by number (Err why) later e = absurd (cc)
 
 -- lines without a fault give the same behind so many triangles more, if there is room for theirs
-pub readings_behind : (k unit vertices before triangles : ℕ) (lines : List JoinedLine)
-    → first_faulty (readings unit vertices before triangles lines) ≡ None
-    → k + triangles + length (faces_in (readings unit vertices before triangles lines)) ≤ MOST_FACES
-    → readings unit vertices before (k + triangles) lines ≡ readings unit vertices before triangles lines
-readings_behind k unit vertices before triangles [] e room = refl
-readings_behind k unit vertices before triangles (line ∷ lines) e room =
-    let given = given_of unit vertices before triangles line.words in
-    let b = before + cond (is_vertex line.words) 1 0 in
+pub readings_behind : (k unit vertices : ℕ) (place : Place) (points triangles : ℕ) (lines : List JoinedLine)
+    → first_faulty (readings_at unit vertices place points triangles lines) ≡ None
+    → k + triangles + length (faces_in (readings_at unit vertices place points triangles lines)) ≤ MOST_FACES
+    → readings_at unit vertices place points (k + triangles) lines ≡ readings_at unit vertices place points triangles lines
+readings_behind k unit vertices place points triangles [] e room = refl
+readings_behind k unit vertices place points triangles (line ∷ lines) e room =
+    let given = given_of unit vertices (before place points) triangles line.words in
+    let b = points + cond (is_vertex line.words) 1 0 in
     let added = length (faces_read given) in
-    let rest = readings unit vertices b (triangles + added) lines in
+    let rest = readings_at unit vertices place b (triangles + added) lines in
     let none = faultless_by line.number given (first_faulty rest) e in
     let all : length (faces_read given ++ faces_in rest) ≡ added + length (faces_in rest) =
     length-append (faces_read given) (faces_in rest) in
     let own : k + triangles + added ≤ MOST_FACES = omega (arith, room, all) in
     let theirs : k + (triangles + added) + length (faces_in rest) ≤ MOST_FACES = omega (arith, room, all) in
-    let same = given_behind k unit vertices before triangles line.words none.0 own in
+    let same = given_behind k unit vertices (before place points) triangles line.words none.0 own in
     let moved : k + triangles + added ≡ k + (triangles + added) = omega arith in
     ap (λ o. record { number = line.number; given = o }
-    ∷ readings unit vertices b (k + triangles + length (faces_read o)) lines) same
-    ∙ ap (λ n. record { number = line.number; given = given } ∷ readings unit vertices b n lines) moved
+    ∷ readings_at unit vertices place b (k + triangles + length (faces_read o)) lines) same
+    ∙ ap (λ n. record { number = line.number; given = given } ∷ readings_at unit vertices place b n lines) moved
     ∙ ap (λ rs. record { number = line.number; given = given } ∷ rs)
-    (readings_behind k unit vertices b (triangles + added) lines none.1 theirs)
+    (readings_behind k unit vertices place b (triangles + added) lines none.1 theirs)

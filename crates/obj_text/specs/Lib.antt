@@ -4,8 +4,9 @@ pub mod Groups
 pub mod Texts
 pub mod Steps
 pub mod PlainRows
+pub mod Places
+pub mod Names
 pub mod Parts
-pub mod Ahead
 pub mod Sections
 pub mod HeightFields
 pub mod Arrays

@@ -1,31 +1,41 @@
--- What a part of a text gives, where it is known what stands before it. No public clause cites this module.
+-- What a part of a text gives. No public clause cites this module.
 use Rattle.std.specs.Prelude.{◌≡◌, ℕ, List, [], ◌∷◌, ◌++◌, ◌≤◌, ⊤, length, replicate, Option, None, Some}
+use Rattle.std.specs.Borrow.{Bor}
+use Rattle.std.specs.Option.{option_or}
 use Rattle.std.specs.List.{All}
 use Rattle.fixed_box.specs.World.{InWorld}
 use Rattle.fixed_box.specs.declared.shapes.Point.{Point}
 use Rattle.text_words.specs.Joins.{JoinedLine}
 use Rattle.obj_text.specs.Meshes.{MeshLists, IsFaceOf}
 use Rattle.obj_text.specs.Groups.{first_seen, places_in}
-use Rattle.obj_text.specs.Texts.{readings, points_in, faces_in, names_in, first_faulty, FaultyLine}
+use Rattle.obj_text.specs.Texts.{points_in, faces_in, first_faulty, FaultyLine}
+use Rattle.obj_text.specs.Places.{readings_at}
+use Rattle.obj_text.specs.Names.{known, known_names, last_known}
 use Rattle.obj_text.specs.declared.face.Face.{Face}
 use Rattle.obj_text.specs.declared.fault.MeshFault.{MeshFault}
 use Rattle.obj_text.specs.declared.fault.MeshFault.TheVariants.{Line, Memory}
 use Rattle.obj_text.specs.declared.limits.TheConstants.{MOST_POINTS, MOST_FACES}
 use Rattle.obj_text.specs.declared.part.Run.{Run}
+use Rattle.obj_text.specs.declared.place.Place.{Place}
 
--- the name of each face of runs of faces
-abbrev pub names_of : List Run → List (List ℕ)
+-- the name of each face of runs of faces, where it is known
+abbrev pub names_of : List Run → List (Option (List ℕ))
 names_of [] = []
-names_of (run ∷ runs) = replicate run.faces run.name.now ++ names_of runs
+names_of (run ∷ runs) = replicate run.faces (known run.name) ++ names_of runs
 
--- lines without a fault give these points, and faces in these runs, where so many vertices and this name stand before
--- them, and triangles are counted from the first of these lines
-pub record IsPart (unit vertices before : ℕ) (name : List ℕ) (lines : List JoinedLine) (points : List Point)
-    (faces : List Face) (runs : List Run) : Type 0 where
-  pub faultless : first_faulty (readings unit vertices before 0 lines) ≡ None
-  pub points_are : points ≡ points_in (readings unit vertices before 0 lines)
-  pub faces_are : faces ≡ faces_in (readings unit vertices before 0 lines)
-  pub names_are : names_of runs ≡ names_in name (readings unit vertices before 0 lines)
+-- a run behind lines of which this is the last known name
+abbrev pub run_behind : Option (Bor (List ℕ)) → Run → Run
+run_behind last run = record { name = option_or run.name last; faces = run.faces }
+
+-- lines without a fault that stand there give these points, and faces in these runs, and leave this name, where
+-- triangles are counted from the first of these lines
+pub record IsPart (unit vertices : ℕ) (place : Place) (lines : List JoinedLine) (points : List Point)
+    (faces : List Face) (runs : List Run) (name : Option (Bor (List ℕ))) : Type 0 where
+  pub faultless : first_faulty (readings_at unit vertices place 0 0 lines) ≡ None
+  pub points_are : points ≡ points_in (readings_at unit vertices place 0 0 lines)
+  pub faces_are : faces ≡ faces_in (readings_at unit vertices place 0 0 lines)
+  pub names_are : names_of runs ≡ known_names None (readings_at unit vertices place 0 0 lines)
+  pub name_is : known name ≡ last_known None (readings_at unit vertices place 0 0 lines)
 
 -- what a refusal says of the first faulty line: it is this one; want of memory says nothing
 abbrev pub IsFirstFault : Option FaultyLine → MeshFault → Type 0

@@ -1,5 +1,5 @@
 -- Lines that are read in one pass, each as what the same line gives word by word. No public clause cites this module.
-use Rattle.std.specs.Prelude.{◌≡◌, ℕ, ◌+◌, Bool, true, false, List, [], ◌∷◌, length, codes, Ok}
+use Rattle.std.specs.Prelude.{◌≡◌, ℕ, ◌+◌, Bool, true, false, List, [], ◌∷◌, length, codes, Ok, Option}
 use Rattle.fixed_box.specs.declared.shapes.Point.{Point}
 use Rattle.text_words.specs.Joins.{JoinedLine}
 use Rattle.text_words.specs.PlainLines.{BeginsWithLine}
@@ -26,12 +26,12 @@ pub record BeginsWithNumbers (text : List ℕ) (a b c : ℕ) (rest : List ℕ) :
   pub b_is : IsNumber second b
   pub c_is : IsNumber third c
 
--- one line is read, in a text with so many vertices, behind so many of them and what was gathered, and the name stays
+-- one line is read, in a text with so many vertices, behind so many of them and these faces, and the name stays
 pub record ReadsOne (unit vertices before : ℕ) (lines left : List JoinedLine) (points more_points : List Point)
-    (faces more_faces : List Face) (name : List ℕ) : Type 0 where
+    (faces more_faces : List Face) (name : Option (List ℕ)) : Type 0 where
   pub line : JoinedLine
   pub lines_are : lines ≡ line ∷ left
-  pub added : IsAdded (given_of unit vertices (before + length points) (length faces) line.words)
+  pub added : IsAdded (given_of unit vertices before (length faces) line.words)
       points more_points faces more_faces name name
 
 -- none is read
@@ -43,7 +43,7 @@ pub record ReadsNone (lines left : List JoinedLine) (points more_points : List P
 
 -- one is read, or none
 abbrev pub ReadsOneIf : Bool → ℕ → ℕ → ℕ → List JoinedLine → List JoinedLine → List Point → List Point → List Face
-    → List Face → List ℕ → Type 0
+    → List Face → Option (List ℕ) → Type 0
 ReadsOneIf true unit vertices before lines left points more_points faces more_faces name =
     ReadsOne unit vertices before lines left points more_points faces more_faces name
 ReadsOneIf false unit vertices before lines left points more_points faces more_faces name =

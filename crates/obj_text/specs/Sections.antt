@@ -1,11 +1,10 @@
 -- A text in sections, each cut so that no joined line goes across. No public clause cites this module.
-use Rattle.std.specs.Prelude.{◌≡◌, ◌≤◌, ℕ, List, [], ◌∷◌, ◌++◌, length, map, All}
-use Rattle.std.specs.Option.{option_map}
+use Rattle.std.specs.Prelude.{◌≡◌, ◌≤◌, ℕ, Bool, true, false, List, [], ◌∷◌, ◌++◌, length, map, All}
 use Rattle.text_words.specs.Joins.{JoinedLine, joined_lines_of}
 use Rattle.obj_text.specs.Texts.{vertices_of}
-use Rattle.obj_text.specs.Ahead.{last_group}
 use Rattle.obj_text.specs.declared.limits.TheConstants.{MOST_BYTES}
-use Rattle.obj_text.specs.declared.ahead.Ahead.{Ahead}
+use Rattle.obj_text.specs.declared.place.Place.{Place}
+use Rattle.obj_text.specs.declared.place.Place.TheVariants.{Behind, Anywhere}
 use Rattle.obj_text.specs.declared.sections.Section.{Section}
 
 -- a joined line with another number
@@ -21,17 +20,17 @@ abbrev pub lines_in : List Section → List JoinedLine
 lines_in [] = []
 lines_in (section ∷ sections) = joined_lines_of section.text.now ++ lines_in sections
 
--- it says of lines behind it what these lines say
-pub record IsAhead (lines : List JoinedLine) (ahead : Ahead) : Type 0 where
-  pub vertices : ahead.vertices ≡ vertices_of lines
-  pub name : option_map (λ name. name.now) ahead.name ≡ last_group lines
-
--- a section that is not too long, with what it says of lines behind it
-pub record IsCounted (section : Section) : Type 0 where
+-- a section that is not too long, with how many vertices it has where they are counted
+pub record IsSection (counted : Bool) (section : Section) : Type 0 where
   pub few : length section.text.now ≤ MOST_BYTES
-  pub ahead : IsAhead (joined_lines_of section.text.now) section.ahead
+  pub vertices : counted ≡ true → section.vertices ≡ vertices_of (joined_lines_of section.text.now)
 
 -- the sections have these lines, but for their numbers
-pub record AreSections (sections : List Section) (lines : List JoinedLine) : Type 0 where
-  pub each : All IsCounted sections
+pub record AreSections (counted : Bool) (sections : List Section) (lines : List JoinedLine) : Type 0 where
+  pub each : All (IsSection counted) sections
   pub same : map unnumbered (lines_in sections) ≡ map unnumbered lines
+
+-- where a part stands behind so many vertices, those of its sections are counted
+abbrev pub is_counted : Place → Bool
+is_counted (Behind vertices) = true
+is_counted Anywhere = false

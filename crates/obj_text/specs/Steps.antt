@@ -1,8 +1,9 @@
 -- What one line adds to what was read before it. No public clause cites this module.
-use Rattle.std.specs.Prelude.{◌≡◌, ⊤, ℕ, Bool, List, ◌∷◌, ◌++◌, nat_lt, nat_le, length, if◌then◌else◌, Result, Ok, Err, true, false}
+use Rattle.std.specs.Prelude.{◌≡◌, ⊤, ℕ, Bool, List, Option, ◌∷◌, ◌++◌, nat_lt, nat_le, length, if◌then◌else◌, Result, Ok, Err, true, false}
 use Rattle.fixed_box.specs.declared.shapes.Point.{Point}
 use Rattle.obj_text.specs.Groups.{with_name}
-use Rattle.obj_text.specs.Rows.{Given, onward, points_of, faces_of, name_after, position_of, positions_of, fan_from}
+use Rattle.obj_text.specs.Rows.{Given, onward, points_of, faces_of, position_of, positions_of, fan_from}
+use Rattle.obj_text.specs.Names.{known_after}
 use Rattle.obj_text.specs.declared.face.Face.{Face}
 use Rattle.obj_text.specs.declared.limits.TheConstants.{MOST_FACES}
 use Rattle.obj_text.specs.declared.fault.Why.{Why}
@@ -11,14 +12,15 @@ use Rattle.obj_text.specs.declared.line_fault.LineFault.{LineFault}
 use Rattle.obj_text.specs.declared.line_fault.LineFault.TheVariants.{Faulty, Memory}
 
 -- points, faces and a name after a line that gives this
-pub record Adds (given : Given) (points more_points : List Point) (faces more_faces : List Face) (name next : List ℕ)
-    : Type 0 where
+pub record Adds (given : Given) (points more_points : List Point) (faces more_faces : List Face)
+    (name next : Option (List ℕ)) : Type 0 where
   pub points_are : more_points ≡ points ++ points_of given
   pub faces_are : more_faces ≡ faces ++ faces_of given
-  pub name_is : next ≡ name_after name given
+  pub name_is : next ≡ known_after name given
 
 -- the same after a line that was read; after one with a fault it cannot be
-abbrev pub IsAdded : Result Given Why → List Point → List Point → List Face → List Face → List ℕ → List ℕ → Type 0
+abbrev pub IsAdded : Result Given Why → List Point → List Point → List Face → List Face → Option (List ℕ)
+    → Option (List ℕ) → Type 0
 IsAdded (Ok given) points more_points faces more_faces name next =
     Adds given points more_points faces more_faces name next
 IsAdded (Err why) points more_points faces more_faces name next = ⊥
@@ -28,7 +30,7 @@ abbrev pub extended : List Face → Result Given Why → Result (List Face) Why
 extended faces outcome = onward outcome (λ given. Ok (faces ++ faces_of given))
 
 -- a line that is known to leave the current name does so
-abbrev pub KeepsName : List ℕ → List ℕ → Bool → Type 0
+abbrev pub KeepsName : Option (List ℕ) → Option (List ℕ) → Bool → Type 0
 KeepsName name next true = ⊤
 KeepsName name next false = next ≡ name
 

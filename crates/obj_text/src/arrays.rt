@@ -36,7 +36,7 @@ fn is_face_of(points: usize, face: &Face) -> bool
 }
 
 /// The place of the first face that names none of so many points.
-fn first_loose(points: usize, faces: &[Face]) -> Option<usize>
+pub fn first_loose(points: usize, faces: &[Face]) -> Option<usize>
     ensures some { IfSome result (IsFirstWrong (IsFaceOf points) faces.now) }
     ensures none { result ≡ None → All (IsFaceOf points) faces.now }
 {

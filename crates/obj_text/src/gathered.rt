@@ -3,10 +3,10 @@
 use crate::face::Face;
 use fixed_box::Point;
 
-/// The points and the faces so far, and the current name.
+/// The points and the faces so far, and the current name: none where it is the one before the part.
 #[derive(Drop)]
 pub struct Gathered<'a> {
     pub points: Vec<Point>,
     pub faces: Vec<Face>,
-    pub name: &'a [u8],
+    pub name: Option<&'a [u8]>,
 }

@@ -3,7 +3,6 @@
 //! What a text's mesh is, or which of its lines has the first fault, is defined over the whole text at once.
 #![tactic(auto)]
 
-mod ahead;
 mod array_fault;
 mod arrays;
 mod coordinates;
@@ -17,6 +16,7 @@ mod line_fault;
 mod mesh;
 mod name_bytes;
 mod part;
+mod place;
 mod plain_rows;
 mod read;
 mod references;
@@ -24,6 +24,7 @@ mod rows;
 mod sections;
 mod split;
 mod vertex_count;
+mod vertex_lines;
 
 pub use array_fault::ArrayFault;
 pub use arrays::one_group;

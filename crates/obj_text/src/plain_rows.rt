@@ -6,6 +6,7 @@ ghost use Rattle.std.specs.Prelude.{◌≡◌, ◌+◌, ◌<◌, ◌≤◌, ◌�
 ghost use Rattle.text_words.specs.PlainLines.{IsPlainWord};
 ghost use Rattle.text_words.specs.ThreeNumbers.{IsNumber};
 ghost use Rattle.obj_text.specs.Rows.{coordinate_of};
+ghost use Rattle.obj_text.specs.Names.{known};
 ghost use Rattle.obj_text.specs.PlainRows.{BeginsWithPoint, BeginsWithNumbers, ReadsOneIf};
 
 use crate::coordinates::in_world;
@@ -94,8 +95,8 @@ fn numbers_row(text: &[u8]) -> Option<(u32, u32, u32, &[u8])>
     Some((a, b, c, rest))
 }
 
-/// Reads the next line where it is plain, of a text with so many vertices, behind so many of them and what was
-/// gathered. Answers whether it was.
+/// Reads the next line where it is plain, of a text with so many vertices, of which so many stand before it, behind the
+/// faces that were gathered. Answers whether it was.
 pub fn read_plain<'a>(
     lines: &mut JoinedLines<'a>,
     unit: u32,
@@ -104,17 +105,16 @@ pub fn read_plain<'a>(
     gathered: &mut Gathered<'a>,
 ) -> Result<bool, AllocError>
     requires vertices { vertices.old < GREATEST_NUMBER }
-    requires before { before + length gathered.now.points.items ≤ vertices.old }
+    requires before { before ≤ vertices.old }
     ensures line { IfOk result (λ read. ReadsOneIf read unit vertices.old before lines.old.later lines.new.later
         gathered.old.points.items gathered.new.points.items gathered.old.faces.items gathered.new.faces.items
-        gathered.old.name.now) }
-    ensures name { gathered.new.name.now ≡ gathered.old.name.now }
+        (known gathered.old.name)) }
+    ensures name { gathered.new.name ≡ gathered.old.name }
     ensures same { vertices.new ≡ vertices.old }
 {
     let Some((number, text)) = lines.text_behind() else {
         return Ok(false);
     };
-    let before = before + gathered.points.len() as u32;
     if let Some((point, rest)) = point_row(text, unit) {
         if before as usize >= MOST_POINTS {
             return Ok(false);

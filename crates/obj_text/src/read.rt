@@ -7,6 +7,7 @@ use crate::fault::MeshFault;
 use crate::limits::MOST_BYTES;
 use crate::mesh::Mesh;
 use crate::part::{mesh_of_part, read_part};
+use crate::place::Place;
 use crate::split::{PartsFault, read_apart};
 use crate::vertex_count::VertexCount;
 use fixed_box::UNIT_MAX;
@@ -32,7 +33,7 @@ pub fn read_mesh(alloc: Global, bytes: &[u8], unit: u32) -> Result<Mesh, MeshFau
     ensures refusal { IfErr result (IsRefusalOf (mesh_of unit bytes.now)) }
 {
     let mut vertices = VertexCount::new(bytes);
-    let part = read_part(alloc, bytes, unit, &mut vertices, 0, b"default")?;
+    let part = read_part(alloc, bytes, unit, &mut vertices, Place::Behind(0))?;
     match mesh_of_part(alloc, part) {
         Ok(mesh) => Ok(mesh),
         Err(_) => Err(MeshFault::Memory),
@@ -61,7 +62,8 @@ fn read_long<R: Threads + Sync>(
 /// Reads a mesh text as `read_mesh` does, with the same answer: a long one in parts, by several threads.
 ///
 /// A long text with a fault is read twice, and takes as long as by `read_mesh` and a part of that more. So is one whose
-/// parts want more memory than there is.
+/// parts want more memory than there is. One whose references count back is read once in vain too, up to the first of
+/// them in each part.
 pub fn read_mesh_by_threads<R: Threads + Sync>(
     rt: &R,
     alloc: Global,
@@ -80,6 +82,8 @@ pub fn read_mesh_by_threads<R: Threads + Sync>(
     match read_long(rt, alloc, bytes, unit) {
         Ok(mesh) => Ok(mesh),
         // as one, which tells the first fault and wants less memory
-        Err(PartsFault::Faulty | PartsFault::Memory) => read_mesh(alloc, bytes, unit),
+        Err(PartsFault::Reference | PartsFault::Faulty | PartsFault::Memory) => read_mesh(
+            alloc, bytes, unit,
+        ),
     }
 }

@@ -4,6 +4,7 @@
 ghost use Rattle.std.specs.Prelude.{◌≡◌, ◌+◌, ◌<◌, ◌≤◌, ◌∷◌, ◌++◌, [], length, drop, MatchOption, MatchResult, OnOk, IfErr, IfOk, Ok, false};
 ghost use Rattle.obj_text.specs.Rows.{given_of, vertex_of, triangles_of, name_of, position, position_of};
 ghost use Rattle.obj_text.specs.Rows.{Vertex};
+ghost use Rattle.obj_text.specs.Names.{known};
 ghost use Rattle.obj_text.specs.Steps.{IsAdded, KeepsName, IsLineFault, IsOutcome, extended, all_three, first_corners_of, fan_left};
 
 use crate::coordinates::point;
@@ -17,8 +18,8 @@ use crate::vertex_count::VertexCount;
 use fixed_box::Point;
 use text_words::JoinedLines;
 
-/// Reads the line at hand, of a text with so many vertices, behind so many of them and what was gathered. Answers
-/// whether the current name may be another now.
+/// Reads the line at hand, of a text with so many vertices, of which so many stand before it, behind the faces that were
+/// gathered. Answers whether the current name may be another now.
 pub fn read_line<'a>(
     line: &mut JoinedLines<'a>,
     unit: u32,
@@ -27,24 +28,21 @@ pub fn read_line<'a>(
     gathered: &mut Gathered<'a>,
 ) -> Result<bool, LineFault>
     requires vertices { vertices.old < GREATEST_NUMBER }
-    requires before { before + length gathered.now.points.items ≤ vertices.old }
+    requires before { before ≤ vertices.old }
     requires faces { length gathered.now.faces.items ≤ MOST_FACES }
     ensures added { OnOk result (IsAdded
-        (given_of unit vertices.old (before + length gathered.old.points.items) (length gathered.old.faces.items)
-        line.old.words)
+        (given_of unit vertices.old before (length gathered.old.faces.items) line.old.words)
         gathered.old.points.items gathered.new.points.items gathered.old.faces.items gathered.new.faces.items
-        gathered.old.name.now gathered.new.name.now) }
+        (known gathered.old.name) (known gathered.new.name)) }
     ensures fault { IfErr result (IsLineFault
-        (given_of unit vertices.old (before + length gathered.old.points.items) (length gathered.old.faces.items)
-        line.old.words)) }
-    ensures name { IfOk result (KeepsName gathered.old.name.now gathered.new.name.now) }
+        (given_of unit vertices.old before (length gathered.old.faces.items) line.old.words)) }
+    ensures name { IfOk result (KeepsName (known gathered.old.name) (known gathered.new.name)) }
     ensures later { line.new.later ≡ line.old.later }
     ensures same { vertices.new ≡ vertices.old }
 {
     let Some(keyword) = line.next_word() else {
         return Ok(false);
     };
-    let before = before + gathered.points.len() as u32;
     if keyword == b"v".as_slice() {
         let point = vertex(line, unit, before)?;
         add_point(&mut gathered.points, point)?;
@@ -55,14 +53,14 @@ pub fn read_line<'a>(
         return Ok(false);
     }
     if keyword == b"g".as_slice() || keyword == b"o".as_slice() {
-        gathered.name = name(line);
+        gathered.name = Some(name(line));
         return Ok(true);
     }
     Ok(false)
 }
 
 /// The name behind the word `g` or `o`.
-pub fn name<'a>(line: &mut JoinedLines<'a>) -> &'a [u8]
+fn name<'a>(line: &mut JoinedLines<'a>) -> &'a [u8]
     ensures name { result.now ≡ name_of line.old.words }
     ensures later { line.new.later ≡ line.old.later }
 {

@@ -341,6 +341,44 @@ fn a_group_goes_on_from_part_to_part(rt: HostRuntime) -> Result<(), Fail> {
     Ok(())
 }
 
+/// Three vertices and three triangles in eight lines, with two names, and references from the first vertex on alone: to
+/// its own block's, to the first three and to one that may stand far behind.
+const FORWARD_BLOCK: &[u8] =
+    b"o one\nv 0 0 0\nv 1 0 0\nv 0 \\\n1 0\nf 1 2 3\ng two\nf 3/1 2/7/ 60000//4\n";
+
+#[test]
+fn parts_of_a_long_text_name_vertices_of_others(rt: HostRuntime) -> Result<(), Fail> {
+    let text = repeated(rt.alloc(), b"f 60000 1 2\n", FORWARD_BLOCK, 20_000)?;
+    let mesh = read_joined(&rt, rt.alloc(), &text)?;
+    assert_eq!(rt; mesh.points().len(), 60_000);
+    assert_eq!(rt; mesh.faces().len(), 40_001);
+    assert_eq!(rt; mesh.groups().len(), 3);
+    expect_face(&rt, &mesh, 0, 59_999, 0, 1, 0);
+    expect_face(&rt, &mesh, 1, 0, 1, 2, 1);
+    expect_face(&rt, &mesh, 20_002, 2, 1, 59_999, 2);
+    expect_face(&rt, &mesh, 39_999, 0, 1, 2, 1);
+    expect_face(&rt, &mesh, 40_000, 2, 1, 59_999, 2);
+    expect_same(&rt, &mesh, &read_text(&rt, rt.alloc(), &text, 1)?);
+    let past = repeated(rt.alloc(), &text, b"f 1 2 60001\n", 1)?;
+    expect_fault(&rt, rt.alloc(), &past, 160_002, Why::NoSuchVertex);
+    let back = repeated(rt.alloc(), &text, b"f -1 -60000 1\n", 1)?;
+    let mesh = read_joined(&rt, rt.alloc(), &back)?;
+    expect_face(&rt, &mesh, 40_001, 59_999, 0, 0, 2);
+    let far = repeated(rt.alloc(), &text, b"f -1 -60001 1\n", 1)?;
+    expect_fault(&rt, rt.alloc(), &far, 160_002, Why::NoSuchVertex);
+    Ok(())
+}
+
+#[test]
+fn vertices_of_all_parts_are_counted(rt: HostRuntime) -> Result<(), Fail> {
+    let full = repeated(rt.alloc(), b"", b"v 0 0 0\n", 1_048_576)?;
+    let mesh = read_joined(&rt, rt.alloc(), &full)?;
+    assert_eq!(rt; mesh.points().len(), MOST_POINTS);
+    let past = repeated(rt.alloc(), &full, b"v 0 0 0\nf 1 1 2\n", 600_000)?;
+    expect_fault(&rt, rt.alloc(), &past, 1_048_577, Why::TooManyVertices);
+    Ok(())
+}
+
 /// That a long text is refused at a line.
 fn expect_fault<R: Threads + Sync + Abort>(
     rt: &R,

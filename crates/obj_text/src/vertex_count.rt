@@ -5,8 +5,8 @@ ghost use Rattle.std.specs.Prelude.{◌≡◌, ◌≤◌, length};
 ghost use Rattle.text_words.specs.Joins.{joined_lines_of};
 ghost use Rattle.obj_text.specs.Texts.{vertices_of};
 
-use crate::ahead::ahead_of;
 use crate::limits::MOST_BYTES;
+use crate::vertex_lines::vertex_lines;
 use std::marker::Model;
 
 /// The number of lines of a text that begin with the word `v`.
@@ -62,7 +62,7 @@ impl<'a> VertexCount<'a> {
         if let Some(count) = self.counted {
             return count;
         }
-        let count = ahead_of(self.text).vertices;
+        let count = vertex_lines(self.text);
         self.counted = Some(count);
         count
     }

@@ -3,6 +3,7 @@ use Rattle.text_words.specs.Lines.{lines_of}
 use Rattle.text_words.specs.Joins.{joined_lines}
 use Rattle.obj_text.specs.Rows.{position}
 use Rattle.obj_text.specs.Steps.{all_three}
+use Rattle.obj_text.specs.Names.{known}
 use Rattle.obj_text.specs.PlainRows.{BeginsWithPoint, BeginsWithNumbers, ReadsOne}
 use Rattle.obj_text.specs.declared.limits.TheConstants.{MOST_POINTS, MOST_FACES}
 use Rattle.obj_text.proofs.PlainRows.{row_words, lines_fit, point_read, numbers_read}
@@ -29,14 +30,14 @@ returns-in-Some-point_row-clause-line c =
     let rest = c.in-Some-point_row.rest.now in
     let was = c.args.gathered.now in
     let p : BeginsWithPoint c.args.unit text point rest = search rules in
-    let room : c.args.before + length was.points.items < MOST_POINTS = search rules in
+    let room : c.args.before < MOST_POINTS = search rules in
     let lines : c.args.lines.now.later ≡ joined_lines (c.in-Some.number + 1) (lines_of text) = search rules in
     let left : c.behind_lines.result.later ≡ joined_lines (c.in-Some.number + 1 + 1) (lines_of rest) = search rules in
     let items : c.push.new.self.items ≡ was.points.items ++ point ∷ [] = search rules in
     subst (λ k. ReadsOne c.args.unit c.args.vertices.now c.args.before c.args.lines.now.later
-    c.behind_lines.result.later was.points.items k was.faces.items was.faces.items was.name.now) (sym items)
+    c.behind_lines.result.later was.points.items k was.faces.items was.faces.items (known was.name)) (sym items)
     (point_read c.args.unit c.args.vertices.now c.args.before c.in-Some.number text point rest c.args.lines.now.later
-    c.behind_lines.result.later was.points.items was.faces.items was.name.now p room lines left)
+    c.behind_lines.result.later was.points.items was.faces.items (known was.name) p room lines left)
 
 pub overflow_add-number-2 : goal.overflow_add-number-2
 overflow_add-number-2 c =
@@ -69,7 +70,7 @@ returns-clause-line c =
     let items : c.push-2.new.self.items
     ≡ was.faces.items ++ record { a = corners.a; b = corners.b; c = corners.c } ∷ [] = search rules in
     subst (λ k. ReadsOne c.args.unit vertices c.args.before c.args.lines.now.later c.behind_lines-2.result.later
-    was.points.items was.points.items was.faces.items k was.name.now) (sym items)
+    was.points.items was.points.items was.faces.items k (known was.name)) (sym items)
     (numbers_read c.args.unit vertices c.args.before c.in-Some.number text row.a row.b row.c row.rest.now corners.a
     corners.b corners.c c.args.lines.now.later c.behind_lines-2.result.later was.points.items was.faces.items
-    was.name.now p room named lines left)
+    (known was.name) p room named lines left)

@@ -10,7 +10,7 @@ returns g t c =
     let right = joined_lines_of c.in-Some.right.now in
     let front = c.in_ok-front.field-0 in
     let back = c.in_ok-back.field-0 in
-    let first : AreSections front.items left = search rules in
-    let second : AreSections back.items right = search rules in
-    both_if_there (λ v. v.items) _ front.items back.items left right (joined_lines_of c.args.text.now) c.both.result
+    let first : AreSections c.args.counted front.items left = search rules in
+    let second : AreSections c.args.counted back.items right = search rules in
+    both_if_there c.args.counted (λ v. v.items) _ front.items back.items left right (joined_lines_of c.args.text.now) c.both.result
     c.in-Some.ensures.lines first second c.both.ensures

@@ -1,6 +1,6 @@
 use Rattle.std.proofs.Common.{arith}
 use Rattle.text_words.proofs.Joining.{length-joined_lines_of}
-use Rattle.obj_text.proofs.ahead.ahead_of.Goals as goal
+use Rattle.obj_text.proofs.vertex_lines.vertex_lines.Goals as goal
 
 pub pass_line-requires : goal.pass_line-requires
 pass_line-requires c =
