@@ -1,9 +1,10 @@
 //! What handing boxes up takes in plain Rust: the six changes of a word for each inner node that `box_handoff` makes,
 //! and no more, with nothing proved, beside a fit of the same nodes in turn. It tells how near a proved build can come.
 //!
-//! Usage: climbs SIDE WORKERS [stores], where a bumpy floor has SIDE cells along each side, two triangles each; with
-//! `stores` the last two changes, which no other worker can meet, are plain stores. It prints processor time, medians of
-//! 15 rounds, and ends where the nodes of the two fits differ.
+//! Usage: climbs SIDE WORKERS [stores|arrivals], where a bumpy floor has SIDE cells along each side, two triangles each;
+//! with `stores` the last two changes, which no other worker can meet, are plain stores, and with `arrivals` the two
+//! arrivals are the only changes. It prints processor time, medians of 15 rounds, and ends where the nodes of the two
+//! fits differ.
 
 use std::cell::UnsafeCell;
 use std::sync::atomic::{AtomicU64, Ordering};
@@ -142,8 +143,13 @@ struct Table {
     slots: Slots,
 }
 
+/// All six changes of a word, the last two of them as plain stores, or two of them.
+const ALL: u8 = 0;
+const STORES: u8 = 1;
+const ARRIVALS: u8 = 2;
+
 /// Takes batches of leaves and carries their boxes up, until no batch is left.
-fn climb<const STORES: bool, L: Fn(usize) -> Box3>(table: &Table, first: &[u32], last: &[u32], leaf: &L) {
+fn climb<const FORM: u8, L: Fn(usize) -> Box3>(table: &Table, first: &[u32], last: &[u32], leaf: &L) {
     let order = Ordering::AcqRel;
     let leaves = table.slots.0.len();
     let batches = leaves.div_ceil(BATCH);
@@ -163,21 +169,24 @@ fn climb<const STORES: bool, L: Fn(usize) -> Box3>(table: &Table, first: &[u32],
                 };
                 let word = &table.words[batches + node];
                 let inner = a < b;
-                word.fetch_or(1 << if inner { 7 + side } else { side }, order);
+                let opened = 1 << if inner { 7 + side } else { side };
+                if FORM != ARRIVALS {
+                    word.fetch_or(opened, order);
+                }
                 if inner {
                     let far = if side == 0 { a } else { b };
                     let packet = Slot { far: far as u32, split: split as u32, fit: round };
                     unsafe { *table.slots.0[node + side].get() = packet };
                 }
-                let found = word.fetch_or(4 << side, order);
+                let found = word.fetch_or(4 << side | if FORM == ARRIVALS { opened } else { 0 }, order);
                 if found & 4 << (1 - side) == 0 {
                     break;
                 }
                 let known = found | 4 << side | 16 << (1 - side);
-                if STORES {
-                    word.store(known, Ordering::Release);
-                } else {
-                    word.fetch_or(16 << (1 - side), order);
+                match FORM {
+                    STORES => word.store(known, Ordering::Release),
+                    ALL => _ = word.fetch_or(16 << (1 - side), order),
+                    _ => {}
                 }
                 let other = node + 1 - side;
                 let (far, fit) = if found & 128 << (1 - side) == 0 {
@@ -186,10 +195,10 @@ fn climb<const STORES: bool, L: Fn(usize) -> Box3>(table: &Table, first: &[u32],
                     let packet = unsafe { *table.slots.0[other].get() };
                     (packet.far as usize, packet.fit)
                 };
-                if STORES {
-                    word.store(known | 64, Ordering::Release);
-                } else {
-                    word.fetch_or(64, order);
+                match FORM {
+                    STORES => word.store(known | 64, Ordering::Release),
+                    ALL => _ = word.fetch_or(64, order),
+                    _ => {}
                 }
                 round = union(&round, &fit);
                 (a, b, split) = (a.min(far), b.max(far), node);
@@ -219,7 +228,11 @@ fn write_out(table: &Table, batches: usize) -> Vec<Node> {
 fn main() {
     let words: Vec<String> = std::env::args().collect();
     let (side, workers): (usize, usize) = (words[1].parse().unwrap(), words[2].parse().unwrap());
-    let carry = if words.len() > 3 { climb::<true, _> } else { climb::<false, _> };
+    let carry = match words.get(3).map(String::as_str) {
+        Some("stores") => climb::<STORES, _>,
+        Some("arrivals") => climb::<ARRIVALS, _>,
+        _ => climb::<ALL, _>,
+    };
     let boxes = floor(side);
     let keys = ordered(&boxes);
     let leaf = |position: usize| boxes[keys[position].1 as usize];
